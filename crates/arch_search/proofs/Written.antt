@@ -7,7 +7,3 @@ use Rattle.std.proofs.lemmas.List.Elements.{All-nil, All-cons, All-append}
 -- one item more is written
 pub set_more : {X : Type 0} (P : X → Type 0) (xs : List X) (i : ℕ) (x : X) → i < length xs → P x → All P (take i xs) → All P (take (i + 1) (set xs i x))
 set_more P xs i x within one all = rw (take_more_set xs i x within) (All-append P (take i xs) (x ∷ []) all (All-cons P x [] one (All-nil P)))
-
--- all are written
-pub set_all : {X : Type 0} (P : X → Type 0) (xs : List X) (i : ℕ) → length xs ≤ i → All P (take i xs) → All P xs
-set_all P xs i past all = subst (λ l. All P l) (take_all i xs past) all

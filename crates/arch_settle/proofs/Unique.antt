@@ -7,6 +7,8 @@ use Rattle.width_table.specs.Tables.{TableValue}
 use Rattle.bus_model.specs.Buses.{BusValue, cost_of}
 use Rattle.arch_settle.specs.Neighbours.{bottom_up_of, top_down_of, reshuffle_of}
 use Rattle.arch_settle.specs.Settling.{IsStep, IsAtRest, Steps, Rests, IsRound, Rounds, Settles}
+use Rattle.common_lemmas.proofs.Options.{some_same}
+use Rattle.common_lemmas.proofs.Numbers.{three_ways}
 
 -- what holds of each candidate holds of the one at a place
 at_place : (P : List BusValue → Type 0) (xs : List (List BusValue)) (i : ℕ) (x : List BusValue) → All P xs → slice_get xs i ≡ Some x → P x
@@ -17,12 +19,6 @@ before_place P xs i n x all h e =
     let low = slice_get_within xs i x e in
     let within : i < length (take n xs) = omega (arith, length-take n xs) in
     subst P (get_or-take n xs i x h ∙ get_or_from_slice_get xs i x x e) (all i x within)
-
-three_ways : (a b : ℕ) → (a < b) ⊎ ((a ≡ b) ⊎ (b < a))
-three_ways a b = grind arith
-
-some_same : {X : Type 0} (x y : X) → Some x ≡ Some y → x ≡ y
-some_same x y e = cc
 
 step_not_before : (table : TableValue) (xs : List (List BusValue)) (now x y : List BusValue) (s : IsStep table xs now x) (t : IsStep table xs now y) → s.at < t.at → ⊥
 step_not_before table xs now x y s t h =

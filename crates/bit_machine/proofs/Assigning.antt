@@ -14,13 +14,9 @@ use Rattle.bit_machine.specs.Machines.{FitLanes, AreStepped, AreOnWires, AreUser
 use Rattle.bit_machine.specs.declared.lane.Lane.{Lane}
 use Rattle.bit_machine.specs.declared.machine.Machine.{Machine}
 use Rattle.bit_machine.specs.declared.stepped.SteppedLane.{SteppedLane}
+use Rattle.common_lemmas.proofs.Lists.{set_here}
 
 -- ---- an entry that is written
-
-pub set_here : {X : Type 0} (xs : List X) (i : ℕ) (y : X) → i < length xs → slice_get (set xs i y) i ≡ Some y
-set_here [] i y h = absurd (omega arith)
-set_here (x ∷ xs) zero y h = refl
-set_here (x ∷ xs) (suc i) y h = set_here xs i y (omega arith)
 
 pub set_elsewhere : {X : Type 0} (xs : List X) (i j : ℕ) (y : X) → j ≢ i → slice_get (set xs i y) j ≡ slice_get xs j
 set_elsewhere [] i j y h = refl

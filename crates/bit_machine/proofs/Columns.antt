@@ -6,21 +6,11 @@ use Rattle.std.proofs.lemmas.List.{length-set}
 use Rattle.std.proofs.lemmas.Nat.{mod-mul-add}
 use Rattle.std.proofs.lemmas.Bool.{cases_eq, cases_lt}
 use Rattle.bit_machine.specs.Vectors.{byte_at, ArePutAcross, ArePutDown, AreOtherRowsKept, IsBlank, IsElsewhere}
-use Rattle.bit_machine.proofs.Assigning.{set_here, set_elsewhere}
+use Rattle.bit_machine.proofs.Assigning.{set_elsewhere}
+use Rattle.common_lemmas.proofs.Numbers.{same_block}
+use Rattle.common_lemmas.proofs.Lists.{set_here}
 
 -- ---- places
-
--- a row and a column are those of one place alone
-pub same_place : (w r c r' c' : ℕ) → c < w → c' < w → r * w + c ≡ r' * w + c' → (r ≡ r') × (c ≡ c')
-same_place w r c r' c' h h' same =
-    let rests : c ≡ c' = sym (mod-mul-add r w c h) ∙ ap (λ v. v % w) same ∙ mod-mul-add r' w c' h' in
-    (cancel w r r' (omega arith) (omega (arith, rests, same)), rests)
-  where
-    cancel : (w d e : ℕ) → 0 < w → d * w ≡ e * w → d ≡ e
-    cancel w zero zero h same = refl
-    cancel w zero (suc e) h same = absurd (omega arith)
-    cancel w (suc d) zero h same = absurd (omega arith)
-    cancel w (suc d) (suc e) h same = ap suc (cancel w d e h (omega arith))
 
 pub place_within : (w r c size : ℕ) → c < w → (r + 1) * w ≤ size → r * w + c < size
 place_within w r c size h fits = let e : (r + 1) * w ≡ r * w + w = omega arith in omega (arith, h, fits, e)
@@ -33,7 +23,7 @@ set_byte : (text : List ℕ) (w r c b p : ℕ) → c < w → (r + 1) * w ≤ len
 set_byte text w r c b p h fits at = rw at (set_here text (r * w + c) b (place_within w r c (length text) h fits))
 
 other_byte : (text : List ℕ) (w r c b p r' c' : ℕ) → c < w → c' < w → p ≡ r * w + c → (c' ≢ c) ⊎ (r' ≢ r) → slice_get (set text p b) (r' * w + c') ≡ slice_get text (r' * w + c')
-other_byte text w r c b p r' c' h h' at apart = set_elsewhere text p (r' * w + c') b (λ e. differ apart (same_place w r' c' r c h' h (e ∙ at))) where
+other_byte text w r c b p r' c' h h' at apart = set_elsewhere text p (r' * w + c') b (λ e. differ apart (same_block w r' c' r c h' h (e ∙ at))) where
   differ : (c' ≢ c) ⊎ (r' ≢ r) → (r' ≡ r) × (c' ≡ c) → ⊥
   differ (inl column) same = column same.1
   differ (inr row) same = row same.0

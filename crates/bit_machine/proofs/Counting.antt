@@ -18,6 +18,7 @@ use Rattle.bit_machine.specs.Lanes.{lane_bits, capture_answer}
 use Rattle.bit_machine.specs.Machines.{lanes_state, AreOnWires, IsMachine, IsUser, HasNoUser, IsWireCapture, one_capture, one_right}
 use Rattle.bit_machine.specs.declared.stepped.SteppedLane.{SteppedLane}
 use Rattle.bit_machine.specs.declared.machine.Machine.{Machine}
+use Rattle.common_lemmas.proofs.Options.{none_some}
 
 -- ---- counting by a number of the items
 
@@ -177,9 +178,6 @@ capture_here content tests m is w p l u r first answer = record {
   where
     op : operation_at u.t m.cycle ≡ slice_get u.t.operations (m.cycle - u.t.start)
     op = at_operation u.t m.cycle u.begun
-
-none_some : {X : Type 0} {x : X} → None ≡ Some x → ⊥
-none_some e = cc
 
 pub capture_apart : (content : Content) (tests : List PlannedTest) (m : Machine) (is : IsMachine content tests m) (w p : ℕ) (l : SteppedLane) (u : IsUser content tests m w p l) → l.lane.first_wire ≢ w → IsWireCapture content tests m.cycle w (lanes_state m.lanes.items) None
 capture_apart content tests m is w p l u other = record {

@@ -4,7 +4,7 @@ use Rattle.std.specs.List.{range_with_len}
 use Rattle.std.proofs.lemmas.List.{get_or-set_same, get_or-set_other, length-map, same_lists}
 use Rattle.std.proofs.lemmas.List.FromFn.{get_or-map-range_with_len, length-range_with_len}
 use Rattle.std.proofs.lemmas.Bool.{cases_eq}
-use Rattle.bit_machine.proofs.PathBits.{any_default}
+use Rattle.common_lemmas.proofs.Lists.{any_default}
 
 pub fill_more : (P : ℕ → Bool → Type 0) (xs : List Bool) (n : ℕ) (b : Bool) → n < length xs → P n b → ((w : ℕ) → w < n → P w (get_or xs w false)) → (w : ℕ) → w < n + 1 → P w (get_or (set xs n b) w false)
 fill_more P xs n b h here before w less = go (cases_eq w n) where

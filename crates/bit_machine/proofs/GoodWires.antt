@@ -21,16 +21,7 @@ use Rattle.plan_model.proofs.TestsInGoodPlans.{apart, on_bus, OnBus, planned_tam
 use Rattle.plan_model.proofs.GoodPlansRunRight.{every_good_plan_is_right}
 use Rattle.bit_machine.specs.Chips.{wires_of}
 use Rattle.bit_machine.specs.Machines.{AreOnWires}
-
--- the wires of a bus are within those of all
-within_all : (ws : List ℕ) (b : ℕ) → sum (take b ws) + slice_index ws b ≤ sum ws
-within_all ws b = go (cases_lt b (length ws)) where
-  go : (b < length ws) ⊎ (length ws ≤ b) → sum (take b ws) + slice_index ws b ≤ sum ws
-  go (inl less) = sum_by_more_le (λ x. x) ws b 0 less
-  go (inr past) =
-      let none : slice_index ws b ≡ 0 = get_or_past ws b 0 past in
-      let front : sum (take b ws) ≤ sum ws = sum_by-take-le (λ x. x) ws b in
-      omega arith
+use Rattle.common_lemmas.proofs.Lists.{taken_within}
 
 -- only a test over the wires captures
 self_captures : (plan : PlanValue) (place : ℕ) (m : ModuleValue) (test : Test) (n k : ℕ) → slice_get (planned_test plan place m test).operations n ≡ Some (Capture k) → (planned_test plan place m test).tam ≡ true
@@ -85,7 +76,7 @@ good_wires soc limits plan good content =
       alone = a.alone;
       within = λ i t at tam.
           let b : OnBus plan t = on_bus soc plan i t at in
-          rw (b.first, b.wide) (within_all (widths plan) t.bus);
+          rw (b.first, b.wide) (taken_within (widths plan) t.bus);
       some = λ i t at tam. some_wire soc limits plan good i t at tam;
       fit = a.fit;
       captures = λ i c k t at e. capture_tam soc plan i c k t at e;

@@ -9,10 +9,10 @@ use Rattle.plan_model.specs.Cells.{Cell, In, is_loaded}
 use Rattle.plan_model.specs.Plans.{PlannedTest}
 use Rattle.plan_model.specs.Runs.{Content, State, bits_at}
 use Rattle.plan_model.specs.Right.{IsAt, HoldsStimulus}
-use Rattle.plan_model.proofs.Lists.{from_map}
 use Rattle.bit_machine.specs.Chips.{same_bit, chain_holds, holds, HasAllBits}
 use Rattle.bit_machine.proofs.PathBits.{holds_true}
 use Rattle.bit_machine.proofs.LaneSteps.{all_zip}
+use Rattle.common_lemmas.proofs.Lists.{from_map}
 
 -- what all pairs keep, one keeps
 from_all_zip : {X Y : Type 0} (P : X × Y → Bool) (xs : List X) (ys : List Y) (j : ℕ) (x : X) (y : Y) → list_all P (zip xs ys) ≡ true → slice_get xs j ≡ Some x → slice_get ys j ≡ Some y → P (x, y) ≡ true

@@ -22,11 +22,10 @@ use Rattle.bit_machine.specs.declared.path.Path.{Path}
 use Rattle.bit_machine.specs.declared.lane.Lane.{Lane}
 use Rattle.bit_machine.specs.declared.stepped.Page.{Page}
 use Rattle.bit_machine.specs.declared.stepped.SteppedLane.{SteppedLane}
+use Rattle.common_lemmas.proofs.Tests.{and_false}
+use Rattle.common_lemmas.proofs.Lists.{some_item, slice_at}
 
 -- ---- an item of a list
-
-pub slice_at : {X : Type 0} (xs : List X) (i : ℕ) (x : X) → i < length xs → x ≡ get_or xs i x → slice_get xs i ≡ Some x
-slice_at xs i x h e = slice_get-get_or xs i x h ∙ ap Some (sym e)
 
 pub from_set : {X : Type 0} (xs : List X) (i j : ℕ) (y z : X) → slice_get (set xs i y) j ≡ Some z → ((j ≡ i) × (z ≡ y)) ⊎ (slice_get xs j ≡ Some z)
 from_set [] i j y z e = absurd cc
@@ -45,11 +44,6 @@ sound_path inputs lengths cells p is = record {
   loads = let a = is.loads_long in let b = is.long in let d = is.chain.in_fit in omega arith;
   answers = let a = is.answers_long in let b = is.long in let d = is.chain.out_fit in omega arith;
 }
-
-some_item : {X : Type 0} (xs : List X) (i : ℕ) → i < length xs → (x : X) × (slice_get xs i ≡ Some x)
-some_item [] i h = absurd (omega arith)
-some_item (x ∷ xs) zero h = (x, refl)
-some_item (x ∷ xs) (suc i) h = some_item xs i (omega arith)
 
 -- there is a bit for each cell of a chain
 pub ring_long : (s : SteppedLane) (j : ℕ) (p : Path) (bits : List Bool) → AreRings s → slice_get s.lane.paths.items j ≡ Some p → bits ≡ get_or s.rings.items j bits → length bits ≡ p.cells
@@ -101,10 +95,6 @@ pub all_zip : {X Y : Type 0} (P : X × Y → Bool) (xs : List X) (ys : List Y) (
 all_zip P [] ys d e long each = refl
 all_zip P (x ∷ xs) [] d e long each = absurd (omega arith)
 all_zip P (x ∷ xs) (y ∷ ys) d e long each = rw (each 0 (omega arith), all_zip P xs ys d e (omega arith) (λ j h. each (suc j) (omega arith))) refl
-
-and_false : (b : Bool) → (b && false) ≡ false
-and_false true = refl
-and_false false = refl
 
 pub one_zip : {X Y : Type 0} (P : X × Y → Bool) (xs : List X) (ys : List Y) (d : X) (e : Y) (j : ℕ) → length ys ≡ length xs → j < length xs → P (get_or xs j d, get_or ys j e) ≡ false → list_all P (zip xs ys) ≡ false
 one_zip P [] ys d e j long h fails = absurd (omega arith)

@@ -11,8 +11,8 @@ use Rattle.plan_model.specs.Cells.{Cell, In, Flop, Out, in_cells, out_cells, flo
 use Rattle.plan_model.specs.Views.{chain_value}
 use Rattle.bit_machine.specs.declared.layout.Layout.{Layout}
 use Rattle.bit_machine.specs.Sessions.{zero_bits}
-use Rattle.bit_machine.proofs.Numbering.{map_append}
 use Rattle.bit_machine.specs.Layouts.{chain_of, chain_length, layout_cells, IsListed, IsLong}
+use Rattle.common_lemmas.proofs.Lists.{map_append}
 
 -- ---- lengths
 

@@ -24,13 +24,9 @@ use Rattle.bit_machine.specs.Paths.{is_answered}
 use Rattle.bit_machine.specs.Vectors.{digit, byte_at, earlier, later, AreShifts, AreChainsPut, ArePlayed, HasLane, HasSomeLane, IsBlank, IsLineBelow, IsLineOf, IsPlayed}
 use Rattle.bit_machine.specs.declared.lane.Lane.{Lane}
 use Rattle.bit_machine.proofs.WireUsers.{nobody, from_answered, at_end, read_there}
+use Rattle.common_lemmas.proofs.Lists.{some_item}
 
 -- ---- a lane and its test
-
-some_item : {X : Type 0} (xs : List X) (i : ℕ) → i < length xs → (x : X) × (slice_get xs i ≡ Some x)
-some_item [] i h = absurd (omega arith)
-some_item (x ∷ xs) zero h = (x, refl)
-some_item (x ∷ xs) (suc i) h = some_item xs i (omega arith)
 
 pub some_lane_at : (keys : Keys) (lanes : List Lane) (wires i : ℕ) (l : Lane) → AreSomeLanes keys lanes wires → slice_get lanes i ≡ Some l → HasSomeLane keys wires l
 some_lane_at keys lanes wires i l s at =

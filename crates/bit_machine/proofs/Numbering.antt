@@ -19,7 +19,7 @@ use Rattle.bit_machine.specs.Paths.{IsChain, IsPath}
 use Rattle.bit_machine.specs.Numbers.{run_numbers, all_numbers, IsFull}
 use Rattle.bit_machine.specs.declared.numbers.NumberRun.{NumberRun}
 use Rattle.bit_machine.specs.declared.path.Path.{Path}
-use Rattle.bit_machine.proofs.PathBits.{any_default}
+use Rattle.common_lemmas.proofs.Lists.{map_append, map_twice, any_default}
 
 -- ---- pushed numbers
 
@@ -133,23 +133,15 @@ shifted_range : (a b n : ℕ) → map (λ k. a + k) (range_with_len b n) ≡ ran
 shifted_range a b zero = refl
 shifted_range a b (suc n) = let e : a + b + 1 ≡ a + (b + 1) = omega arith in rw e (ap (λ v. (a + b) ∷ v) (shifted_range a (b + 1) n))
 
-map_map : {X Y Z : Type 0} (f : Y → Z) (g : X → Y) (xs : List X) → map f (map g xs) ≡ map (λ x. f (g x)) xs
-map_map f g [] = refl
-map_map f g (x ∷ xs) = ap (λ v. f (g x) ∷ v) (map_map f g xs)
-
 map_itself : (xs : List ℕ) → map (λ k. k) xs ≡ xs
 map_itself [] = refl
 map_itself (x ∷ xs) = ap (λ v. x ∷ v) (map_itself xs)
 
-pub map_append : {X Y : Type 0} (f : X → Y) (xs ys : List X) → map f (xs ++ ys) ≡ map f xs ++ map f ys
-map_append f [] ys = refl
-map_append f (x ∷ xs) ys = ap (λ v. f x ∷ v) (map_append f xs ys)
-
 pub ins_numbers : (inputs : ℕ) (lengths : List ℕ) (i n : ℕ) → map (stimulus_place inputs lengths) (in_cells i n) ≡ range_with_len i n
-ins_numbers inputs lengths i n = map_map (stimulus_place inputs lengths) (λ k. In k) (range_with_len i n) ∙ map_itself (range_with_len i n)
+ins_numbers inputs lengths i n = map_twice (stimulus_place inputs lengths) (λ k. In k) (range_with_len i n) ∙ map_itself (range_with_len i n)
 
 outs_numbers : (lengths : List ℕ) (o n : ℕ) → map (response_place lengths) (out_cells o n) ≡ range_with_len (sum lengths + o) n
-outs_numbers lengths o n = map_map (response_place lengths) (λ k. Out k) (range_with_len o n) ∙ shifted_range (sum lengths) o n
+outs_numbers lengths o n = map_twice (response_place lengths) (λ k. Out k) (range_with_len o n) ∙ shifted_range (sum lengths) o n
 
 pub flop_loads : (inputs : ℕ) (lengths scans : List ℕ) → map (stimulus_place inputs lengths) (flat_map (flops lengths) scans) ≡ flat_map (flop_numbers inputs lengths) scans
 flop_loads inputs lengths [] = refl
@@ -168,7 +160,7 @@ flop_loads inputs lengths (c ∷ cs) =
     none = omega arith
 
     here : map (stimulus_place inputs lengths) (flops lengths c) ≡ flop_numbers inputs lengths c
-    here = map_map (stimulus_place inputs lengths) (λ i. Flop c i) (range_with_len 0 (slice_index lengths c)) ∙ same (slice_index lengths c) 0 ∙ rw none refl
+    here = map_twice (stimulus_place inputs lengths) (λ i. Flop c i) (range_with_len 0 (slice_index lengths c)) ∙ same (slice_index lengths c) 0 ∙ rw none refl
 
 pub flop_answers : (lengths scans : List ℕ) → map (response_place lengths) (flat_map (flops lengths) scans) ≡ flat_map (flop_numbers 0 lengths) scans
 flop_answers lengths [] = refl
@@ -179,7 +171,7 @@ flop_answers lengths (c ∷ cs) =
     start = omega arith
 
     here : map (response_place lengths) (flops lengths c) ≡ flop_numbers 0 lengths c
-    here = map_map (response_place lengths) (λ i. Flop c i) (range_with_len 0 (slice_index lengths c)) ∙ shifted_range (sum (take c lengths)) 0 (slice_index lengths c) ∙ rw start refl
+    here = map_twice (response_place lengths) (λ i. Flop c i) (range_with_len 0 (slice_index lengths c)) ∙ shifted_range (sum (take c lengths)) 0 (slice_index lengths c) ∙ rw start refl
 
 -- a chain of these parts
 path_parts : (inputs : ℕ) (lengths : List ℕ) (a b c : List Cell) (p : Path) → Parts a b c → p.loads ≡ map (stimulus_place inputs lengths) (a ++ b) → p.answers ≡ map (response_place lengths) (b ++ c) →

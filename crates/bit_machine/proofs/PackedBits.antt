@@ -6,6 +6,7 @@ use Rattle.std.proofs.lemmas.List.FromFn.{get_or-map-range_with_len, length-rang
 use Rattle.std.proofs.lemmas.Nat.Bits.{bit_at-zero, bit_at_set_same, bit_at_set_other, bit_at_clear_same, bit_at_clear_other}
 use Rattle.std.proofs.lemmas.Bool.{cases_eq}
 use Rattle.bit_machine.specs.Packed.{is_set, word_bit, packed}
+use Rattle.common_lemmas.proofs.Lists.{any_default}
 
 -- ---- one word
 
@@ -23,11 +24,6 @@ cleared_other n k h i l other = ap (λ d. nat_eq d 1) (bit_at_clear_other w64 n 
 
 -- ---- all bits
 
-pub any : {X : Type 0} (xs : List X) (k : ℕ) (a b : X) → k < length xs → get_or xs k a ≡ get_or xs k b
-any [] k a b h = absurd (omega arith)
-any (x ∷ xs) zero a b h = refl
-any (x ∷ xs) (suc k) a b h = any xs k a b (omega arith)
-
 pub packed_long : (words : List ℕ) (n : ℕ) → length (packed words n) ≡ n
 packed_long words n = length-map (range_with_len 0 n) (word_bit words) ∙ length-range_with_len 0 n
 
@@ -39,7 +35,7 @@ pub packed_is : (words : List ℕ) (n : ℕ) (bits : List Bool) → length bits 
 packed_is words n bits long each =
     same_lists (packed words n) bits (packed_long words n ∙ sym long) (λ i d h.
     let within : i < n = omega (arith, packed_long words n) in
-    any (packed words n) i d false h ∙ packed_at words n i within ∙ each i within ∙ any bits i false d (omega (arith, long)))
+    any_default (packed words n) i d false h ∙ packed_at words n i within ∙ each i within ∙ any_default bits i false d (omega (arith, long)))
 
 same_at : (k i x : ℕ) → get_or (replicate k x) i x ≡ x
 same_at zero i x = refl

@@ -10,6 +10,8 @@ use Rattle.plan_model.proofs.ChainShifts.{get_or-captured, length-captured}
 use Rattle.bit_machine.specs.Chips.{same_bit, chain_holds}
 use Rattle.bit_machine.specs.declared.path.Path.{Path}
 use Rattle.bit_machine.specs.Paths.{IsPath, path_stimulus, path_response, made_from}
+use Rattle.common_lemmas.proofs.Lists.{any_default}
+use Rattle.common_lemmas.proofs.Tests.{and_false}
 
 -- ---- what a chain holds
 
@@ -22,10 +24,6 @@ same_bit_differs true true e = absurd (e refl)
 same_bit_differs true false e = refl
 same_bit_differs false true e = refl
 same_bit_differs false false e = absurd (e refl)
-
-and_false : (b : Bool) → (b && false) ≡ false
-and_false true = refl
-and_false false = refl
 
 pub holds_true : (f : Cell → Bool) (cells : List Cell) (bits : List Bool) → length bits ≡ length cells → ((r : ℕ) → r < length cells → is_loaded (get_or cells r (In 0)) ≡ true → get_or bits r false ≡ f (get_or cells r (In 0))) → chain_holds f cells bits ≡ true
 holds_true f [] bits long each = refl
@@ -65,11 +63,6 @@ captured_unread f [] bits j h l r = absurd (omega arith)
 captured_unread f (x ∷ cells) [] j h l r = absurd (omega arith)
 captured_unread f (x ∷ cells) (b ∷ bits) zero h l r = rw r refl
 captured_unread f (x ∷ cells) (b ∷ bits) (suc j) h l r = captured_unread f cells bits j (omega arith) (omega arith) r
-
-pub any_default : {X : Type 0} (xs : List X) (k : ℕ) (a b : X) → k < length xs → get_or xs k a ≡ get_or xs k b
-any_default [] k a b h = absurd (omega arith)
-any_default (x ∷ xs) zero a b h = refl
-any_default (x ∷ xs) (suc k) a b h = any_default xs k a b (omega arith)
 
 -- what the loop of a capture has done, up to a number of answers
 pub record CaptureDone (base k from q : ℕ) (answers : List ℕ) (old new : List Bool) : Type 0 where

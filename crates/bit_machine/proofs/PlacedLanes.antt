@@ -26,7 +26,6 @@ use Rattle.bit_machine.specs.Layouts.{layout_cells}
 use Rattle.bit_machine.specs.declared.layout.Layout.{Layout}
 use Rattle.plan_model.proofs.OperationCounts.{ops_length}
 use Rattle.plan_model.proofs.Greatest.{le-greatest}
-use Rattle.plan_model.proofs.Finding.{in_filter}
 use Rattle.plan_model.proofs.Lists.{from_filter}
 use Rattle.plan_model.proofs.PlannedTests.{IsLive, live_at, of_first_is, Wrapped, wrapped}
 use Rattle.plan_model.proofs.ShortTests.{short_planned}
@@ -47,7 +46,7 @@ use Rattle.bit_machine.specs.Building.{ArePaths}
 use Rattle.bit_machine.specs.Placed.{inputs_of, lengths_of, IsPlacedLane, IsSelfLane, StandFor}
 use Rattle.bit_machine.specs.declared.lane.Lane.{Lane}
 use Rattle.bit_machine.specs.declared.path.Path.{Path}
-use Rattle.bit_machine.proofs.LaneSteps.{slice_at}
+use Rattle.common_lemmas.proofs.Lists.{slice_at, in_filter}
 
 -- ---- the live test of a name
 
@@ -138,9 +137,6 @@ over_none false bus e = refl
 over_some : (tam : Bool) (bus over : ℕ) → bus_over tam bus ≡ Some over → (tam ≡ true) × (bus ≡ over)
 over_some true bus over e = (refl, same_Some bus over e)
 over_some false bus over e = absurd cc
-
-none_some : {X : Type 0} {x : X} → None ≡ Some x → ⊥
-none_some e = cc
 
 self_new : (keys : Keys) (soc : SocValue) (plan : PlanValue) (i : ℕ) (live : LiveTest) (u : PlannedTest) (placed : PlacedTest) (l : Lane) → slice_get (live_tests soc) i ≡ Some live → u ≡ planned_test plan live.place live.core live.test → PlannedIs plan live.place live.core live.test u →
     placed ≡ placed_of u → placed.bus ≡ None → IsSelfLane placed l → IsPlacedLane keys soc plan u l

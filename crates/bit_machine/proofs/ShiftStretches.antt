@@ -19,6 +19,7 @@ use Rattle.plan_model.proofs.OperationBlocks.{capture_found, capture_place, IsCa
 use Rattle.bit_machine.specs.Paths.{is_answered, numbered_marks, numbered_stimulus, IsPath}
 use Rattle.bit_machine.specs.Vectors.{digit, byte_at, earlier, later, AreShifts, ArePutDown, IsDriven, IsElsewhere, IsKeptElsewhere, IsRead, IsApart, AreChainsPut}
 use Rattle.bit_machine.specs.declared.path.Path.{Path}
+use Rattle.common_lemmas.proofs.Options.{none_some}
 
 -- ---- what lies ahead, from what is wanted
 
@@ -83,9 +84,6 @@ same_pair a b e =
 
 same_option : (x y m k : ℕ) → x ≡ m → y ≡ k → ◌≡◌ {A = Option (ℕ × ℕ)} (Some (x, y)) (Some (m, k))
 same_option x y m k e f = rw (e, f) refl
-
-none_some : {X : Type 0} {x : X} → None ≡ Some x → ⊥
-none_some e = cc
 
 shift_first : (l : List Operation) (m k : ℕ) → ahead l ≡ Some (suc m, k) → (xs : List Operation) × (l ≡ Shift ∷ xs) × (ahead xs ≡ Some (m, k))
 shift_first [] m k e = absurd cc

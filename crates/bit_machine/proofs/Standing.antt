@@ -11,14 +11,10 @@ use Rattle.bit_machine.specs.Lanes.{lane_bits, lane_on, ArePages, IsBusy, IsLane
 use Rattle.bit_machine.specs.Machines.{lanes_state, AreStepped, AreNow, AreNowBelow, AreSomeUsers, IsStood}
 use Rattle.bit_machine.specs.declared.lane.Lane.{Lane}
 use Rattle.bit_machine.specs.declared.stepped.SteppedLane.{SteppedLane}
-use Rattle.bit_machine.proofs.Assigning.{on_is, uses_from, set_here}
+use Rattle.bit_machine.proofs.Assigning.{on_is, uses_from}
 use Rattle.bit_machine.proofs.LaneSteps.{same_bits, same_on, same_steppable}
 use Rattle.bit_machine.proofs.WireUsers.{busy_of}
-
-some_item : {X : Type 0} (xs : List X) (i : ℕ) → i < length xs → (x : X) × (slice_get xs i ≡ Some x)
-some_item [] i h = absurd (omega arith)
-some_item (x ∷ xs) zero h = (x, refl)
-some_item (x ∷ xs) (suc i) h = some_item xs i (omega arith)
+use Rattle.common_lemmas.proofs.Lists.{some_item, set_here}
 
 pub none_below : (lanes : List SteppedLane) (c : ℕ) → AreNowBelow lanes c 0
 none_below lanes c i l at on less = absurd (omega arith)

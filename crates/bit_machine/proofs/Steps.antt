@@ -10,8 +10,8 @@ use Rattle.plan_model.specs.Runs.{captured}
 use Rattle.bit_machine.specs.Sessions.{each_with, response_bit}
 use Rattle.bit_machine.proofs.EachWith.{length-each_with, each_with-past, each_with-more}
 use Rattle.bit_machine.proofs.Captures.{AreRead, read_numbered, captured-more, flop_answers}
-use Rattle.bit_machine.proofs.PathBits.{any_default}
 use Rattle.bit_machine.proofs.Layouts.{length-ins, length-flops, length-flop}
+use Rattle.common_lemmas.proofs.Lists.{any_default}
 
 -- ---- a list of chains
 

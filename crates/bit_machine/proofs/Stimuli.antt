@@ -10,7 +10,8 @@ use Rattle.soc_model.specs.Modes.{scan_lengths}
 use Rattle.bit_machine.specs.Chips.{stimulus_place}
 use Rattle.bit_machine.specs.Building.{flop_numbers}
 use Rattle.bit_machine.proofs.Responses.{joined_range, added_range, later_places, number_in_range}
-use Rattle.bit_machine.proofs.Numbering.{flop_loads, flop_answers, ins_numbers, map_append, ins_loaded, flops_loaded, outs_unloaded}
+use Rattle.bit_machine.proofs.Numbering.{flop_loads, flop_answers, ins_numbers, ins_loaded, flops_loaded, outs_unloaded}
+use Rattle.common_lemmas.proofs.Lists.{map_append}
 
 all_pass : (xs : List Cell) → All (λ x. is_loaded x ≡ true) xs → filter is_loaded xs ≡ xs
 all_pass [] h = refl

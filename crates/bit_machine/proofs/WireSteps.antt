@@ -16,7 +16,7 @@ use Rattle.bit_machine.specs.Machines.{lanes_state, IsMachine, IsUser, IsWireSte
 use Rattle.bit_machine.specs.declared.stepped.SteppedLane.{SteppedLane}
 use Rattle.bit_machine.specs.declared.machine.Machine.{Machine}
 use Rattle.bit_machine.proofs.LaneSteps.{from_set}
-use Rattle.bit_machine.proofs.PathBits.{any_default}
+use Rattle.common_lemmas.proofs.Lists.{any_default}
 
 -- a test that does not use the wire of one of its chains does nothing
 idle : (t : PlannedTest) (c j : ℕ) → t.tam ≡ true → j < t.width → uses c (t.first_wire + j) t ≡ false → operation_at t c ≡ None

@@ -9,9 +9,10 @@ use Rattle.soc_model.specs.Chips.{SocValue, LiveTest, live_tests, id_of}
 use Rattle.plan_model.specs.Plans.{LimitsValue}
 use Rattle.plan_model.specs.Rules.{live_ids}
 use Rattle.plan_model.specs.Certificates.{is_called, Follows, IsChainItem}
-use Rattle.plan_model.proofs.Lists.{contains_at, at_contains, from_map, last-take}
+use Rattle.plan_model.proofs.Lists.{at_contains, last-take}
 use Rattle.plan_model.proofs.CertificatesAreBounds.{same_test_is, is_same_test}
-use Rattle.bound_rules.proofs.Naming.{found_at, found_some}
+use Rattle.bound_rules.proofs.Naming.{found_some}
+use Rattle.common_lemmas.proofs.Lists.{found_at, contains_at, from_map}
 
 -- a name of a live test is found, and what is found has the name
 pub found_live : (soc : SocValue) (id : TestId) → is_some (find (is_called id) (live_tests soc)) ≡ true → Contains (live_ids soc) id

@@ -10,19 +10,16 @@ use Rattle.soc_model.specs.Chips.{SocValue}
 use Rattle.plan_model.specs.Plans.{LimitsValue}
 use Rattle.plan_model.specs.Rules.{Each, live_ids}
 use Rattle.plan_model.specs.Certificates.{Follows, IsChainItem}
-use Rattle.plan_model.proofs.Lists.{from_append, in_append_left}
+use Rattle.plan_model.proofs.Lists.{from_append}
 use Rattle.bound_certificate.specs.Best.{EndsIn}
+use Rattle.common_lemmas.proofs.Lists.{at_last, at_left}
 
 -- ---- the last item
-
-pub at_end : {X : Type 0} (xs : List X) (x : X) → slice_get (xs ++ x ∷ []) (length xs) ≡ Some x
-at_end [] x = refl
-at_end (y ∷ xs) x = at_end xs x
 
 pub last_pushed : {X : Type 0} (xs : List X) (x : X) → slice_get (xs ++ x ∷ []) (length (xs ++ x ∷ []) - 1) ≡ Some x
 last_pushed xs x =
     let long : length (xs ++ x ∷ []) - 1 ≡ length xs = omega (arith, length-append xs (x ∷ [])) in
-    rw long (at_end xs x)
+    rw long (at_last xs x)
 
 -- what stands before the last item
 pub front_of : {X : Type 0} (xs : List X) (x : X) → slice_get xs (length xs - 1) ≡ Some x → (front : List X) × (xs ≡ front ++ x ∷ [])
@@ -54,8 +51,8 @@ each_push {X} P xs x each last n y at = by (from_append xs (x ∷ []) n y at)
 
 pub each_front : {X : Type 0} (P : List X → X → Type 0) (xs : List X) (x : X) → Each P (xs ++ x ∷ []) → Each P xs × P xs x
 each_front {X} P xs x each = (
-  (λ n y at. (let within = slice_get_within xs n y at in subst (λ (l : List X). P l y) (take-append-le n xs (x ∷ []) (omega (arith, within))) (each n y (in_append_left xs (x ∷ []) n y at)))),
-  subst (λ (l : List X). P l x) (take-append_seam xs (x ∷ [])) (each (length xs) x (at_end xs x)),
+  (λ n y at. (let within = slice_get_within xs n y at in subst (λ (l : List X). P l y) (take-append-le n xs (x ∷ []) (omega (arith, within))) (each n y (at_left xs (x ∷ []) n y at)))),
+  subst (λ (l : List X). P l x) (take-append_seam xs (x ∷ [])) (each (length xs) x (at_last xs x)),
 )
 
 -- ---- precedence chains

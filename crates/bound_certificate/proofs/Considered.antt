@@ -21,6 +21,8 @@ use Rattle.soc_model.specs.Chips.{parent_place}
 use Rattle.soc_model.proofs.Places.{IsKeyed-from_sound, place-from_module}
 use Rattle.bound_certificate.specs.Best.{better, number_at}
 use Rattle.bound_certificate.specs.Winners.{considered, seen, HasValue}
+use Rattle.common_lemmas.proofs.Lists.{flat_map_push}
+use Rattle.common_lemmas.proofs.Ranges.{range_next}
 
 pub seen_considered : (soc : SocValue) (limits : LimitsValue) (best : Option (ℕ × Why)) (shown : ℕ) (why : Why) → HasValue soc limits best → shown ≡ certificate_value soc limits (why_value why) → seen (considered best shown why) ≡ better (certificate_value soc limits) (seen best) (why_value why)
 seen_considered soc limits None shown why has is = refl
@@ -36,23 +38,6 @@ value_considered soc limits (Some b) shown why has is bound keeps = elim (cases_
   | inr more ↦ rw more has
 ]
 
-pub range-next : (a n : ℕ) → range_with_len a (suc n) ≡ range_with_len a n ++ (a + n) ∷ []
-range-next a zero = let none : a + 0 ≡ a = omega arith in rw none refl
-range-next a (suc n) =
-    let ih : range_with_len (a + 1) (suc n) ≡ range_with_len (a + 1) n ++ (a + 1 + n) ∷ [] = range-next (a + 1) n in
-    let same : a + 1 + n ≡ a + suc n = omega arith in
-    ap (λ r. a ∷ r) (ih ∙ ap (λ k. range_with_len (a + 1) n ++ k ∷ []) same)
-
-pub flat_map-push : {X Y : Type 0} (h : X → List Y) (xs : List X) (x : X) → flat_map h (xs ++ x ∷ []) ≡ flat_map h xs ++ h x
-flat_map-push h [] x = append-none (h x) where
-  append-none : {Y : Type 0} (ys : List Y) → ys ++ [] ≡ ys
-  append-none [] = refl
-  append-none (y ∷ ys) = ap (λ r. y ∷ r) (append-none ys)
-flat_map-push h (y ∷ xs) x = ap (λ r. h y ++ r) (flat_map-push h xs x) ∙ append-assoc (h y) (flat_map h xs) (h x) where
-  append-assoc : {Y : Type 0} (us vs ws : List Y) → us ++ (vs ++ ws) ≡ (us ++ vs) ++ ws
-  append-assoc [] vs ws = refl
-  append-assoc (u ∷ us) vs ws = ap (λ r. u ∷ r) (append-assoc us vs ws)
-
 pub fold-append : {X Y : Type 0} (g : Y → X → Y) (o : Y) (xs ys : List X) → fold g o (xs ++ ys) ≡ fold g (fold g o xs) ys
 fold-append g o [] ys = refl
 fold-append g o (x ∷ xs) ys = fold-append g (g o x) xs ys
@@ -62,8 +47,8 @@ pub next_place : {X Y : Type 0} (g : Y → X → Y) (h : ℕ → List X) (o : Y)
 next_place g h o n m is =
     let same : m ≡ suc n = omega arith in
     let here : 0 + n ≡ n = omega arith in
-    let cut : range_with_len 0 (suc n) ≡ range_with_len 0 n ++ n ∷ [] = range-next 0 n ∙ ap (λ k. range_with_len 0 n ++ k ∷ []) here in
-    ap (λ k. fold g o (flat_map h (range_with_len 0 k))) same ∙ ap (λ r. fold g o (flat_map h r)) cut ∙ ap (fold g o) (flat_map-push h (range_with_len 0 n) n) ∙ fold-append g o (flat_map h (range_with_len 0 n)) (h n)
+    let cut : range_with_len 0 (suc n) ≡ range_with_len 0 n ++ n ∷ [] = range_next 0 n ∙ ap (λ k. range_with_len 0 n ++ k ∷ []) here in
+    ap (λ k. fold g o (flat_map h (range_with_len 0 k))) same ∙ ap (λ r. fold g o (flat_map h r)) cut ∙ ap (fold g o) (flat_map_push h (range_with_len 0 n) n) ∙ fold-append g o (flat_map h (range_with_len 0 n)) (h n)
 
 -- ---- by the number of a module
 

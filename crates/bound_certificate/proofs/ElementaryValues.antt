@@ -17,13 +17,14 @@ use Rattle.plan_model.specs.Rules.{Each, live_ids}
 use Rattle.plan_model.specs.Bounds.{lower, is_of, module_bound, pair_bound, power_bound}
 use Rattle.plan_model.specs.Certificates.{on, certificate_value, pair_bound_of, lower_of_id, KeepsList, IsChainItem, IsElementary, is_elementary}
 use Rattle.plan_model.proofs.CertificatesAreBounds.{Named, named}
-use Rattle.plan_model.proofs.Lists.{in_append_left, in_append_right, in_flat_map, contains_at}
+use Rattle.plan_model.proofs.Lists.{in_append_right, in_flat_map}
 use Rattle.plan_model.proofs.PlannedTests.{IsLive, live_at}
 use Rattle.plan_model.proofs.Sums.{item-le-sum_by}
 use Rattle.bound_rules.specs.Sizes.{sizes_of, time_by}
 use Rattle.bound_rules.proofs.Modules.{module_bound_is}
 use Rattle.bound_certificate.specs.Best.{places, has_live, module_why, pair_why, chain_why, power_why, candidates, better, winner, winning, chain_sum, IsGreatestChain, forced_or, IsBestWith}
 use Rattle.bound_certificate.proofs.Considered.{number_is, module_value_of, pair_bound_of as pair_of_number}
+use Rattle.common_lemmas.proofs.Lists.{at_left, contains_at}
 
 -- ---- the winner of a list
 
@@ -90,9 +91,9 @@ module_candidate : (soc : SocValue) (limits : LimitsValue) (chain : Option (List
 module_candidate soc limits chain p m sound at live =
     let here : slice_get (module_why soc p) 0 ≡ Some (OfModule m.number) = rw (at, live, number_is soc p m at) refl in
     let a = in_flat_map (module_why soc) (places soc) p 0 p (OfModule m.number) (place-at soc p (slice_get_within soc.modules p m at)) here in
-    let b = in_append_left (of_modules soc) (of_pairs soc) a.0 (OfModule m.number) a.1 in
-    let c = in_append_left (of_modules soc ++ of_pairs soc) (chain_why chain) a.0 (OfModule m.number) b in
-    let d = in_append_left (of_modules soc ++ of_pairs soc ++ chain_why chain) (of_sums limits) a.0 (OfModule m.number) c in
+    let b = at_left (of_modules soc) (of_pairs soc) a.0 (OfModule m.number) a.1 in
+    let c = at_left (of_modules soc ++ of_pairs soc) (chain_why chain) a.0 (OfModule m.number) b in
+    let d = at_left (of_modules soc ++ of_pairs soc ++ chain_why chain) (of_sums limits) a.0 (OfModule m.number) c in
     rw (module_value_of soc limits p m sound at) (candidate-le soc limits chain a.0 (OfModule m.number) d)
 
 pair_candidate : (soc : SocValue) (limits : LimitsValue) (chain : Option (List TestId)) (p q : ℕ) (m n : ModuleValue) → IsSoundChip soc → slice_get soc.modules p ≡ Some m → slice_get soc.modules q ≡ Some n → parent_place soc.modules p ≡ Some q → has_live m ≡ true → has_live n ≡ true →
@@ -101,8 +102,8 @@ pair_candidate soc limits chain p q m n sound at above is live live' =
     let here : slice_get (pair_why soc p) 0 ≡ Some (OfPair m.number) = rw (is, at, above, live, live', number_is soc p m at) refl in
     let a = in_flat_map (pair_why soc) (places soc) p 0 p (OfPair m.number) (place-at soc p (slice_get_within soc.modules p m at)) here in
     let b = in_append_right (of_modules soc) (of_pairs soc) a.0 (OfPair m.number) a.1 in
-    let c = in_append_left (of_modules soc ++ of_pairs soc) (chain_why chain) b.0 (OfPair m.number) b.1 in
-    let d = in_append_left (of_modules soc ++ of_pairs soc ++ chain_why chain) (of_sums limits) b.0 (OfPair m.number) c in
+    let c = at_left (of_modules soc ++ of_pairs soc) (chain_why chain) b.0 (OfPair m.number) b.1 in
+    let d = at_left (of_modules soc ++ of_pairs soc ++ chain_why chain) (of_sums limits) b.0 (OfPair m.number) c in
     let value : pair_bound soc limits.wires q p ≡ certificate_value soc limits (OfPair m.number) = pair_of_number soc limits p (pair_bound soc limits.wires q p) m sound at (rw is refl) in
     rw value (candidate-le soc limits chain b.0 (OfPair m.number) d)
 
@@ -111,7 +112,7 @@ unfolding certificate_value
 chain_candidate soc limits None = omega arith
 chain_candidate soc limits (Some ids) =
     let c = in_append_right (of_modules soc ++ of_pairs soc) (OfChain ids ∷ []) 0 (OfChain ids) refl in
-    let d = in_append_left (of_modules soc ++ of_pairs soc ++ OfChain ids ∷ []) (of_sums limits) c.0 (OfChain ids) c.1 in
+    let d = at_left (of_modules soc ++ of_pairs soc ++ OfChain ids ∷ []) (of_sums limits) c.0 (OfChain ids) c.1 in
     candidate-le soc limits (Some ids) c.0 (OfChain ids) d
 
 area_there : (soc : SocValue) (limits : LimitsValue) (chain : Option (List TestId)) (i : ℕ) (why : WhyValue) → slice_get (of_sums limits) i ≡ Some why → certificate_value soc limits why ≤ (winning soc limits chain).cycles

@@ -7,12 +7,11 @@ use Rattle.std.proofs.lemmas.Bool.Decides.{nat_tests}
 use Rattle.std.proofs.lemmas.List.{take_more, take_all}
 use Rattle.std.proofs.lemmas.List.Elements.{Contains-append_left, Contains-append_right, Contains-append_cases}
 use Rattle.std.proofs.lemmas.Option.{slice_get_within}
-use Rattle.plan_model.proofs.Lists.{at_contains, contains_at}
+use Rattle.plan_model.proofs.Lists.{at_contains}
 use Rattle.bound_certificate.specs.Nodes.{NodeValue}
 use Rattle.bound_certificate.specs.Chains.{IsNoBetter, IsBest, better_place, HasEarlier, HasEarlierBelow}
-
-lt_true : (a b : ℕ) → nat_lt a b ≡ true → a < b
-lt_true a b e = grind (arith, nat_tests)
+use Rattle.common_lemmas.proofs.Tests.{less_from_true}
+use Rattle.common_lemmas.proofs.Lists.{contains_at}
 
 lt_false : (a b : ℕ) → nat_lt a b ≡ false → b ≤ a
 lt_false a b e = grind (arith, nat_tests)
@@ -26,8 +25,8 @@ eq_false a b e same = grind (arith, nat_tests)
 -- which of two tests is better
 wins : (a b i j : ℕ) → nat_lt a b || (nat_eq b a && nat_lt j i) ≡ true → (a < b) ⊎ ((b ≡ a) × (j < i))
 wins a b i j e = elim (or_cases (nat_lt a b) (nat_eq b a && nat_lt j i) e) [
-  | inl less ↦ inl (lt_true a b less)
-  | inr both ↦ let p = and_parts (nat_eq b a) (nat_lt j i) both in inr (eq_true b a p.0, lt_true j i p.1)
+  | inl less ↦ inl (less_from_true a b less)
+  | inr both ↦ let p = and_parts (nat_eq b a) (nat_lt j i) both in inr (eq_true b a p.0, less_from_true j i p.1)
 ]
 
 loses : (a b i j : ℕ) → nat_lt a b || (nat_eq b a && nat_lt j i) ≡ false → (b < a) ⊎ ((b ≡ a) × (i ≤ j))

@@ -11,32 +11,7 @@ use Rattle.soc_model.proofs.Places.{slice_get-from_position}
 use Rattle.plan_model.specs.Certificates.{need_of, HasTamTest, IsForcedItem, on}
 use Rattle.plan_model.specs.Bounds.{need}
 use Rattle.bound_certificate.specs.Forced.{IsForcedSoFar}
-
--- what stands before the end of a list with one more item
-pub before_or_last : (ms : List ℕ) (i m x : ℕ) → slice_get ms i ≡ Some m → Contains (take (i + 1) ms) x → Contains (take i ms) x ⊎ (x ≡ m)
-before_or_last ms i m x at here =
-    let k : ℕ = here.0 in
-    let within : i < length ms = slice_get_within ms i m at in
-    let less : here.0 < i + 1 = omega (arith, here.1, length-take (i + 1) ms) in
-    let item : get_or ms here.0 x ≡ x = sym (get_or-take (i + 1) ms here.0 x less) ∙ here.2 in
-    elim (cases_lt here.0 i) [
-      | inl before ↦ inl (here.0, omega (arith, length-take i ms), get_or-take i ms here.0 x before ∙ item)
-      | inr last ↦
-          let same : here.0 ≡ i = omega arith in
-          let item' = rw same at item in
-          inr (sym item' ∙ get_or_from_slice_get ms i m x at)
-    ]
-
-pub is_last : (ms : List ℕ) (i m : ℕ) → slice_get ms i ≡ Some m → Contains (take (i + 1) ms) m
-is_last ms i m at =
-    let within : i < length ms = slice_get_within ms i m at in
-    (i, omega (arith, length-take (i + 1) ms), get_or-take (i + 1) ms i m (omega arith) ∙ get_or_from_slice_get ms i m m at)
-
-pub is_before : (ms : List ℕ) (i m x : ℕ) → slice_get ms i ≡ Some m → Contains (take i ms) x → Contains (take (i + 1) ms) x
-is_before ms i m x at here =
-    let within : i < length ms = slice_get_within ms i m at in
-    let less : here.0 < i = omega (arith, here.1, length-take i ms) in
-    (here.0, omega (arith, length-take (i + 1) ms), get_or-take (i + 1) ms here.0 x (omega arith) ∙ sym (get_or-take i ms here.0 x less) ∙ here.2)
+use Rattle.common_lemmas.proofs.Lists.{is_before, is_last, before_or_last}
 
 same_number : (soc : SocValue) (m n p : ℕ) → module_place soc m ≡ Some p → module_place soc n ≡ Some p → m ≡ n
 same_number soc m n p a b =

@@ -14,12 +14,13 @@ use Rattle.plan_model.specs.Plans.{LimitsValue}
 use Rattle.plan_model.specs.Rules.{Each, live_ids}
 use Rattle.plan_model.specs.SoundLimits.{IsAcyclic}
 use Rattle.plan_model.specs.Certificates.{lower_of_id, IsChainItem}
-use Rattle.plan_model.proofs.Lists.{from_map, contains_at, at_contains, last-take}
+use Rattle.plan_model.proofs.Lists.{at_contains, last-take}
 use Rattle.plan_model.proofs.CertificatesAreBounds.{same_test_is, is_same_test}
 use Rattle.bound_certificate.specs.Best.{EndsIn, IsGreatestSum}
 use Rattle.bound_certificate.specs.Nodes.{NodeValue, AreNodes}
 use Rattle.bound_certificate.specs.Sums.{HasSum, IsMost}
 use Rattle.bound_certificate.proofs.ChainLists.{chain_push, chain_one, ComesFrom, IsSplit, split_chain}
+use Rattle.common_lemmas.proofs.Lists.{from_map, contains_at}
 
 -- ---- nodes and their tests
 

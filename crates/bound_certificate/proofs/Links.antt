@@ -6,7 +6,7 @@ use Rattle.std.proofs.lemmas.Bool.{cases_eq}
 use Rattle.std.proofs.lemmas.List.{length-map, length-set, get_or-map, get_or-set_same, get_or-set_other, map-set}
 use Rattle.std.proofs.lemmas.Option.{slice_get-map}
 use Rattle.soc_model.specs.declared.TestId.{TestId}
-use Rattle.plan_model.proofs.Lists.{from_map, contains_at, at_contains}
+use Rattle.plan_model.proofs.Lists.{at_contains}
 use Rattle.live_tests.specs.declared.neighbours.Neighbours.{Neighbours}
 use Rattle.live_tests.specs.Names.{AllDiffer, places_of}
 use Rattle.live_tests.specs.Neighbours.{before as tests_before, tests_of}
@@ -14,9 +14,8 @@ use Rattle.live_tests.proofs.Precedences.{StandsFor, stands_for, place_there, te
 use Rattle.live_tests.proofs.Sides.{sides_from, sides_have}
 use Rattle.bound_certificate.specs.declared.nodes.PrecedenceNode.{PrecedenceNode}
 use Rattle.bound_certificate.specs.Nodes.{NodeValue, node_value, node_values, ids_of, fixed_parts, before_at, tests_at, AreLinked}
-
-some_is : {X : Type 0} (x y : X) → Some x ≡ Some y → x ≡ y
-some_is x y e = cc
+use Rattle.common_lemmas.proofs.Options.{some_same}
+use Rattle.common_lemmas.proofs.Lists.{from_map, contains_at}
 
 id_at : (nodes : List NodeValue) (ids : List TestId) (k : ℕ) (n : NodeValue) → ids ≡ ids_of nodes → slice_get nodes k ≡ Some n → slice_get ids k ≡ Some n.id
 id_at nodes ids k n same at = ap (λ (l : List TestId). slice_get l k) same ∙ slice_get-map (λ (n : NodeValue). n.id) nodes k ∙ rw at refl
@@ -39,7 +38,7 @@ linked_by before nodes ids same differ each = record { listed = λ j p n at c. l
         let e = sides_from (λ (e : ℕ × ℕ). e.1) (λ (e : ℕ × ℕ). e.0) j pairs k.0 p k.1 in
         let s : StandsFor ids before e.1.0 e.1.1 = stands_for ids before e.1.0 e.1.1 (at_contains pairs e.0 e.1 e.2) in
         let m = node_at nodes ids p s.first same (ap (slice_get ids) (sym e.4) ∙ s.first_at) in
-        let later : n.id ≡ s.second = some_is n.id s.second (sym (id_at nodes ids j n same at) ∙ ap (slice_get ids) (sym e.3) ∙ s.second_at) in
+        let later : n.id ≡ s.second = some_same n.id s.second (sym (id_at nodes ids j n same at) ∙ ap (slice_get ids) (sym e.3) ∙ s.second_at) in
         (m.0, m.1, subst (λ (q : TestId × TestId). Contains before q) (ap (λ (v : TestId). pair_of v s.second) (sym m.2) ∙ ap (λ (v : TestId). pair_of (m.0).id v) (sym later)) s.precedes)
 
     all : (i j : ℕ) (m n : NodeValue) → slice_get nodes i ≡ Some m → slice_get nodes j ≡ Some n → Contains before (pair_of m.id n.id) → Contains n.before i

@@ -16,7 +16,6 @@ use Rattle.plan_model.specs.Plans.{LimitsValue}
 use Rattle.plan_model.specs.Bounds.{lower_time, lower}
 use Rattle.plan_model.specs.Rules.{live_ids}
 use Rattle.plan_model.specs.Certificates.{is_called, lower_of_id}
-use Rattle.plan_model.proofs.Lists.{from_map}
 use Rattle.plan_model.proofs.PlannedTests.{of_first_is}
 use Rattle.plan_model.proofs.CertificatesAreBounds.{same_test_is, is_same_test}
 use Rattle.plan_model.proofs.ShortTests.{live_patterns}
@@ -28,6 +27,7 @@ use Rattle.bound_certificate.specs.declared.nodes.PrecedenceNode.{PrecedenceNode
 use Rattle.bound_certificate.specs.Nodes.{NodeValue, node_value, node_values, ids_of, fixed_parts, node_in, nodes_in, live_nodes, AreLinked, AreNodes}
 use Rattle.live_tests.proofs.LiveIds.{ids_differ}
 use Rattle.bound_certificate.proofs.Links.{ids_same}
+use Rattle.common_lemmas.proofs.Lists.{from_map}
 
 -- ---- lower times of live tests
 

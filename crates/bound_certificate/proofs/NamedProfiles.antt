@@ -10,9 +10,9 @@ use Rattle.plan_model.specs.declared.Profile.{Profile}
 use Rattle.plan_model.specs.Views.{profile_value}
 use Rattle.plan_model.specs.Plans.{ProfileValue}
 use Rattle.plan_model.proofs.CertificatesAreBounds.{same_test_is}
-use Rattle.plan_model.proofs.Lists.{from_map}
 use Rattle.live_tests.specs.Names.{AllDiffer}
 use Rattle.bound_certificate.specs.ProfileNames.{names_of}
+use Rattle.common_lemmas.proofs.Lists.{from_map}
 
 pub names_differ : (ps : List Profile) → ((p q : ℕ) (x y : ProfileValue) → slice_get (map profile_value ps) p ≡ Some x → slice_get (map profile_value ps) q ≡ Some y → x.test ≡ y.test → p ≡ q) → AllDiffer (names_of ps)
 names_differ ps one p q id at at' =

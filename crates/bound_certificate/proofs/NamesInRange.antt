@@ -16,9 +16,10 @@ use Rattle.soc_model.proofs.Sums.{all_right, all_flat}
 use Rattle.plan_model.specs.Plans.{LimitsValue, WhyValue, OfModule, OfPair, OfChain, OfArea, OfPower, OfForced, BoundValue}
 use Rattle.plan_model.specs.Rules.{Each, live_ids}
 use Rattle.plan_model.specs.Certificates.{passes, InChip, KeepsList, IsChainItem, IsForcedItem, IsAccepted, has_parent, has_tam_at}
-use Rattle.plan_model.proofs.Lists.{contains_at, from_map, from_filter}
+use Rattle.plan_model.proofs.Lists.{from_filter}
 use Rattle.plan_model.proofs.PlannedTests.{IsLive, live_at}
 use Rattle.bound_certificate.specs.Best.{NamesInChip, HasPlanNumbers}
+use Rattle.common_lemmas.proofs.Lists.{contains_at, from_map}
 
 -- ---- in the chip
 

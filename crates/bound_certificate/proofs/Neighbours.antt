@@ -6,9 +6,10 @@ use Rattle.std.proofs.lemmas.Bool.{cases_Bool, cases_lt, and_parts}
 use Rattle.std.proofs.lemmas.List.{take_more}
 use Rattle.soc_model.specs.declared.TestId.{TestId}
 use Rattle.soc_model.specs.Chips.{same_test}
-use Rattle.plan_model.proofs.Lists.{any_at, any_from, contains_at, at_contains}
+use Rattle.plan_model.proofs.Lists.{any_from, at_contains}
 use Rattle.plan_model.proofs.CertificatesAreBounds.{same_test_is, is_same_test}
 use Rattle.bound_certificate.specs.Pairs.{same_pair, is_among, replaced, with_note}
+use Rattle.common_lemmas.proofs.Lists.{any_at, contains_at}
 
 -- ---- pairs
 
@@ -54,10 +55,6 @@ replaced_is old p q b t n is yes' e = elim (cases_Bool (same_pair p q)) [
     some : (o : Option Bool) → true ≡ is_some o → option_map (λ _. b) o ≡ Some b
     some None h = absurd cc
     some (Some x) h = refl
-
-pub none_of : {X : Type 0} (o : Option X) (t : Bool) → t ≡ is_some o → t ≡ false → o ≡ None
-none_of None t is e = refl
-none_of (Some x) t is e = absurd cc
 
 -- ---- the pairs are written
 

@@ -11,12 +11,12 @@ use Rattle.plan_model.specs.Bounds.{need}
 use Rattle.plan_model.specs.Certificates.{has_tam_at}
 use Rattle.bound_certificate.specs.Best.{places, number_at, with_need, down_from}
 use Rattle.bound_certificate.specs.Needs.{need_or_zero, of_need}
-use Rattle.bound_certificate.proofs.Considered.{range-next}
+use Rattle.common_lemmas.proofs.Ranges.{range_next}
 
 cut_range : (n m : ℕ) → m ≡ n + 1 → range_with_len 0 m ≡ range_with_len 0 n ++ n ∷ []
 cut_range n m is =
     let same : m ≡ suc n = omega arith in
-    ap (range_with_len 0) same ∙ range-next 0 n ∙ ap (λ k. range_with_len 0 n ++ k ∷ []) (zero-add n)
+    ap (range_with_len 0) same ∙ range_next 0 n ∙ ap (λ k. range_with_len 0 n ++ k ∷ []) (zero-add n)
 
 map-push : {X Y : Type 0} (f : X → Y) (xs : List X) (x : X) → map f (xs ++ x ∷ []) ≡ map f xs ++ f x ∷ []
 map-push f [] x = refl

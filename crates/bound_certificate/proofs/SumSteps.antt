@@ -20,6 +20,7 @@ use Rattle.bound_certificate.specs.declared.sums.Sum.TheVariants.{Unknown, Begun
 use Rattle.bound_certificate.specs.Nodes.{NodeValue, node_value, node_values, AreNodes}
 use Rattle.bound_certificate.specs.Sums.{HasSum, AreRight, GoOn, AreAcyclic, IsRank, IsUnderWay, IsMost, is_unknown, unknown_count}
 use Rattle.bound_certificate.proofs.GreatestSums.{node_live, sum_step, sum_small}
+use Rattle.common_lemmas.proofs.Lists.{set_length}
 
 -- ---- written lists
 
@@ -34,11 +35,6 @@ set_apart (x ∷ xs) zero zero v apart = absurd (apart refl)
 set_apart (x ∷ xs) zero (suc j) v apart = refl
 set_apart (x ∷ xs) (suc i) zero v apart = refl
 set_apart (x ∷ xs) (suc i) (suc j) v apart = set_apart xs i j v (λ e. apart (ap suc e))
-
-pub set_long : {X : Type 0} (xs : List X) (i : ℕ) (v : X) → length (slice_set xs i v) ≡ length xs
-set_long [] i v = refl
-set_long (x ∷ xs) zero v = refl
-set_long (x ∷ xs) (suc i) v = ap suc (set_long xs i v)
 
 -- what stands there after a write
 after_set : {X : Type 0} (xs : List X) (i j : ℕ) (v w : X) → i < length xs → slice_get (slice_set xs i v) j ≡ Some w → ((j ≡ i) × (v ≡ w)) ⊎ ((j ≡ i → ⊥) × (slice_get xs j ≡ Some w))
@@ -123,14 +119,14 @@ begun_right soc limits nodes old test within r = record { right = λ i s at. by 
 -- a test whose sum is found
 pub found : (nodes : List NodeValue) (old now : List Sum) (test sum : ℕ) → test < length old → GoOn nodes (slice_set old test Begun) now → ((soc : SocValue) (limits : LimitsValue) → AreNodes soc limits nodes → AreRight soc limits nodes old → HasSum soc limits nodes test sum) → GoOn nodes old (slice_set now test (Known sum))
 found nodes old now test sum within goes has = record {
-  long = set_long now test (Known sum) ∙ goes.long ∙ set_long old test Begun;
+  long = set_length now test (Known sum) ∙ goes.long ∙ set_length old test Begun;
   unknown = λ i at. unknown i (after_set now test i (Known sum) Unknown now_within at);
   begun = λ i at. begun i (after_set now test i (Known sum) Begun now_within at);
   right = λ soc limits are r. record { right = λ i s at. right soc limits are r i s (after_set now test i (Known sum) (Known s) now_within at) };
 }
   where
     now_within : test < length now
-    now_within = omega (arith, within, goes.long, set_long old test Begun)
+    now_within = omega (arith, within, goes.long, set_length old test Begun)
 
     unknown : (i : ℕ) → ((i ≡ test) × (Known sum ≡ Unknown)) ⊎ ((i ≡ test → ⊥) × (slice_get now i ≡ Some Unknown)) → slice_get old i ≡ Some Unknown
     unknown i (inl e) = absurd (known_unknown sum e.1)

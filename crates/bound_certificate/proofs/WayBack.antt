@@ -11,7 +11,7 @@ use Rattle.soc_model.specs.Chips.{SocValue}
 use Rattle.plan_model.specs.Plans.{LimitsValue}
 use Rattle.plan_model.specs.Rules.{Each, live_ids}
 use Rattle.plan_model.specs.Certificates.{lower_of_id, IsChainItem}
-use Rattle.plan_model.proofs.Lists.{contains_at, at_contains}
+use Rattle.plan_model.proofs.Lists.{at_contains}
 use Rattle.bound_certificate.specs.Best.{EndsIn, IsGreatestSum, IsFirstGreatest, IsBefore, HasBefore, GoesBack, IsPrintedChain, IsGreatestChain}
 use Rattle.bound_certificate.specs.Nodes.{NodeValue, AreNodes}
 use Rattle.bound_certificate.specs.Sums.{AreSums}
@@ -19,6 +19,7 @@ use Rattle.bound_certificate.specs.Chains.{IsNoBetter, IsBest, HasEarlier, SumsF
 use Rattle.bound_certificate.specs.Winners.{names_of}
 use Rattle.bound_certificate.proofs.ChainLists.{chain_push, chain_one, ComesFrom, IsSplit, split_chain}
 use Rattle.bound_certificate.proofs.GreatestSums.{node_live, node_of}
+use Rattle.common_lemmas.proofs.Lists.{contains_at}
 
 reverse_cons : {X : Type 0} (x : X) (xs : List X) → reverse (x ∷ xs) ≡ reverse xs ++ x ∷ []
 reverse_cons x xs = reverse-append (x ∷ []) xs

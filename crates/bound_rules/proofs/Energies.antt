@@ -24,10 +24,11 @@ use Rattle.bound_rules.specs.declared.sizes.Sizes.{Sizes}
 use Rattle.bound_rules.specs.Sizes.{sizes_of}
 use Rattle.bound_rules.specs.Energy.{energy_of, energies}
 use Rattle.bound_rules.proofs.Works.{time_by-le, live_patterns}
-use Rattle.bound_rules.proofs.Modules.{the_live, sum_of_module, same_sum, time_by_sizes, work_by_sizes, fitting_sizes}
+use Rattle.bound_rules.proofs.Modules.{the_live, sum_of_module, time_by_sizes, work_by_sizes, fitting_sizes}
 use Rattle.plan_model.proofs.SumsOverCycles.{sum_below-le}
 use Rattle.plan_model.specs.Plans.{ProfileValue, LimitsValue, step_power, power_of_id}
 use Rattle.plan_model.specs.Bounds.{sum_below, lower, least_energy, quotient_up, power_bound}
+use Rattle.common_lemmas.proofs.Lists.{sums_agree}
 
 pub sum_below-next : (f : ℕ → ℕ) (n : ℕ) → sum_below f (suc n) ≡ sum_below f n + f n
 unfolding sum_below
@@ -137,7 +138,7 @@ abbrev pub energy_at_least : LimitsValue → LiveTest → ℕ
 energy_at_least limits l = sum_below (power_of_id limits (id_of l) l.test.power) (lower limits.wires l)
 
 pub energies_are : (limits : LimitsValue) (p : ℕ) (m : ModuleValue) → energies (sizes_of m) m.number limits.profiles limits.wires m.tests ≡ sum_by (energy_at_least limits) (live_of p m)
-energies_are limits p m = sym (sum_of_module (energy_at_least limits) p m ∙ same_sum (λ t. if is_live t then energy_at_least limits (the_live p m t) else 0) (λ t. if is_live t then energy_of (sizes_of m) m.number limits.profiles limits.wires t else 0) m.tests each)
+energies_are limits p m = sym (sum_of_module (energy_at_least limits) p m ∙ sums_agree (λ t. if is_live t then energy_at_least limits (the_live p m t) else 0) (λ t. if is_live t then energy_of (sizes_of m) m.number limits.profiles limits.wires t else 0) m.tests each)
   where
     each : (t : Test) → (if is_live t then energy_at_least limits (the_live p m t) else 0) ≡ (if is_live t then energy_of (sizes_of m) m.number limits.profiles limits.wires t else 0)
     each t = rw (← time_by_sizes m t limits.wires) refl

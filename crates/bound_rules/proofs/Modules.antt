@@ -7,7 +7,6 @@ use Rattle.std.proofs.lemmas.List.Sums.{sum_by-cons, sum_by-append}
 use Rattle.soc_model.specs.declared.Test.{Test}
 use Rattle.soc_model.specs.Chips.{ModuleValue, SocValue, LiveTest, is_live, live_of, live_from, live_tests}
 use Rattle.soc_model.specs.Sizes.{test_work, work}
-use Rattle.soc_model.proofs.Sums.{sum_by-map}
 use Rattle.plan_model.specs.Listing.{module_size}
 use Rattle.plan_model.specs.Operations.{ops_of}
 use Rattle.plan_model.specs.Plans.{greatest}
@@ -16,6 +15,7 @@ use Rattle.plan_model.proofs.Sums.{item-le-sum_by, sum_by-filter, sum_by-le_at}
 use Rattle.bound_rules.specs.declared.sizes.Sizes.{Sizes}
 use Rattle.bound_rules.specs.Sizes.{sizes_of, least_chain, time_by, work_by, times_by, tam_times_by, works_by, IsFitting}
 use Rattle.soc_model.specs.Modes.{is_tam}
+use Rattle.common_lemmas.proofs.Lists.{sums_agree, sum_map}
 
 -- ---- the sizes of a module
 
@@ -97,21 +97,17 @@ sum_at g p base (suc up) (n ∷ ms) m only at is =
 
 -- a sum over the live tests of one module, by its tests
 pub sum_of_module : (g : LiveTest → ℕ) (p : ℕ) (m : ModuleValue) → sum_by g (live_of p m) ≡ sum_by (λ t. if is_live t then g (the_live p m t) else 0) m.tests
-sum_of_module g p m = sum_by-map g (the_live p m) (filter is_live m.tests) ∙ sum_by-filter is_live (λ t. g (the_live p m t)) m.tests
+sum_of_module g p m = sum_map g (the_live p m) (filter is_live m.tests) ∙ sum_by-filter is_live (λ t. g (the_live p m t)) m.tests
 
 -- a sum over all live tests that is over one module's
 pub only_module : (g : LiveTest → ℕ) (soc : SocValue) (p : ℕ) (m : ModuleValue) → ((l : LiveTest) → l.place ≢ p → g l ≡ 0) → slice_get soc.modules p ≡ Some m →
     sum_by g (live_tests soc) ≡ sum_by (λ t. if is_live t then g (the_live p m t) else 0) m.tests
 only_module g soc p m only at = sum_at g p 0 p soc.modules m only at (omega arith) ∙ sum_of_module g p m
 
-pub same_sum : {X : Type 0} (f g : X → ℕ) (xs : List X) → ((x : X) → f x ≡ g x) → sum_by f xs ≡ sum_by g xs
-same_sum f g [] same = refl
-same_sum f g (x ∷ xs) same = omega (arith, sum_by-cons f x xs, sum_by-cons g x xs, same x, same_sum f g xs same)
-
 pub module_bound_is : (soc : SocValue) (w p : ℕ) (m : ModuleValue) → slice_get soc.modules p ≡ Some m → module_bound soc w p ≡ times_by (sizes_of m) w m.tests
 module_bound_is soc w p m at =
     only_module (λ l. if is_of p l then lower w l else 0) soc p m (λ l other. rw (ne_eqb l.place p other) refl) at
-    ∙ same_sum (λ t. if is_live t then (if is_of p (the_live p m t) then lower w (the_live p m t) else 0) else 0) (λ t. if is_live t then time_by (sizes_of m) w t else 0) m.tests (λ t. each t (is_live t))
+    ∙ sums_agree (λ t. if is_live t then (if is_of p (the_live p m t) then lower w (the_live p m t) else 0) else 0) (λ t. if is_live t then time_by (sizes_of m) w t else 0) m.tests (λ t. each t (is_live t))
   where
     each : (t : Test) (live : Bool) → (if live then (if nat_eq p p then lower_time m t w else 0) else 0) ≡ (if live then time_by (sizes_of m) w t else 0)
     each t false = refl
@@ -125,7 +121,7 @@ elsewhere p l n false other = refl
 pub tam_times_are : (soc : SocValue) (w p : ℕ) (m : ModuleValue) → slice_get soc.modules p ≡ Some m → lower_tam_time soc p w ≡ tam_times_by (sizes_of m) w m.tests
 tam_times_are soc w p m at =
     only_module (λ l. if l.test.tam && is_of p l then lower w l else 0) soc p m (λ l other. elsewhere p l (lower w l) l.test.tam other) at
-    ∙ same_sum (λ t. if is_live t then (if t.tam && is_of p (the_live p m t) then lower w (the_live p m t) else 0) else 0) (λ t. if is_tam t then time_by (sizes_of m) w t else 0) m.tests (λ t. each t (is_live t) t.tam)
+    ∙ sums_agree (λ t. if is_live t then (if t.tam && is_of p (the_live p m t) then lower w (the_live p m t) else 0) else 0) (λ t. if is_tam t then time_by (sizes_of m) w t else 0) m.tests (λ t. each t (is_live t) t.tam)
   where
     each : (t : Test) (live tam : Bool) → (if live then (if tam && nat_eq p p then lower_time m t w else 0) else 0) ≡ (if live && tam then time_by (sizes_of m) w t else 0)
     each t false tam = refl
@@ -140,7 +136,7 @@ work_at_place soc p = sum_by (λ (l : LiveTest). if is_of p l then test_work l.c
 pub works_are : (soc : SocValue) (p : ℕ) (m : ModuleValue) → slice_get soc.modules p ≡ Some m → works_by (sizes_of m) m.tests ≡ work_at_place soc p
 works_are soc p m at =
     sym (only_module (λ l. if is_of p l then test_work l.core l.test else 0) soc p m (λ l other. rw (ne_eqb l.place p other) refl) at
-    ∙ same_sum (λ t. if is_live t then (if is_of p (the_live p m t) then test_work m t else 0) else 0) (λ t. if is_live t then work_by (sizes_of m) t else 0) m.tests (λ t. each t (is_live t)))
+    ∙ sums_agree (λ t. if is_live t then (if is_of p (the_live p m t) then test_work m t else 0) else 0) (λ t. if is_live t then work_by (sizes_of m) t else 0) m.tests (λ t. each t (is_live t)))
   where
     each : (t : Test) (live : Bool) → (if live then (if nat_eq p p then test_work m t else 0) else 0) ≡ (if live then work_by (sizes_of m) t else 0)
     each t false = refl

@@ -20,6 +20,7 @@ use Rattle.bound_rules.specs.declared.sizes.Sizes.{Sizes}
 use Rattle.bound_rules.specs.Sizes.{work_by, works_by}
 use Rattle.bound_rules.proofs.Works.{item_work, live_patterns}
 use Rattle.bound_rules.proofs.Modules.{the_live}
+use Rattle.common_lemmas.proofs.Lists.{found_at}
 
 -- in its own module
 find_in : (id : TestId) (p : ℕ) (m : ModuleValue) → m.number ≡ id.module → (ts : List Test) → find (is_called id) (map (the_live p m) (filter is_live ts)) ≡ option_map (the_live p m) (find (is_named id.test) ts)
@@ -89,14 +90,6 @@ value_named soc w id = go (live_tests soc) where
   go : (ls : List LiveTest) → of_first (is_called id) (lower w) 0 ls ≡ on (find (is_called id) ls) (lower w)
   go [] = refl
   go (l ∷ ls) = elim (cases_Bool (is_called id l)) [ inl yes' ↦ rw yes' refl | inr no' ↦ rw no' (go ls) ]
-
--- what is found is of the list
-pub found_at : {X : Type 0} (p : X → Bool) (xs : List X) (x : X) → find p xs ≡ Some x → (k : ℕ) × (slice_get xs k ≡ Some x) × (p x ≡ true)
-found_at p [] x e = absurd cc
-found_at p (y ∷ xs) x e = elim (cases_Bool (p y)) [
-  | inl yes' ↦ let e' = rw yes' at e in let same : y ≡ x = cc in (0, ap Some same, rw same at yes')
-  | inr no' ↦ let e' = rw no' at e in let r = found_at p xs x e' in (suc r.0, r.1, r.2)
-]
 
 -- the time that was found, or 0
 pub time_or_zero : (soc : SocValue) (w : ℕ) (id : TestId) (o : Option ℕ) → o ≡ option_map (lower w) (find (is_called id) (live_tests soc)) → lower_of_id soc w id ≡ unwrap_or o 0

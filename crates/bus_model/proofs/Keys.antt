@@ -17,6 +17,7 @@ use Rattle.width_table.specs.Tables.{TableValue, IsTable, places_of, time_of, ha
 use Rattle.bus_model.specs.Sound.{times_listed, due}
 use Rattle.bus_model.specs.Start.{StandsBefore, IsStartOrder}
 use Rattle.bus_model.proofs.Times.{only_at, only_at-same, only_at-above, only_at-below, due-one}
+use Rattle.common_lemmas.proofs.Numbers.{three_ways, less_or_not, below_or_at}
 
 abbrev pub Key : Type 0
 Key = Reverse ℕ × ℕ
@@ -49,9 +50,6 @@ due-true table p h = ap (λ b. cond b 1 0) h
 due-false : (table : TableValue) (p : ℕ) → has_tam table p ≡ false → due table p ≡ 0
 due-false table p h = ap (λ b. cond b 1 0) h
 
-below_or_at : (p i : ℕ) → p < i + 1 → (p < i) ⊎ (p ≡ i)
-below_or_at p i h = grind arith
-
 pub keys_take : (table : TableValue) (i : ℕ) (keys : List Key) (key : Key) → AreKeysBelow table i keys → key.1 ≡ i → key.0.0 ≡ time_of table i 1 → has_tam table i ≡ true → AreKeysBelow table (i + 1) (keys ++ key ∷ [])
 keys_take table i keys key old at time tam = record {
   times = All-push (λ (k : Key). k.0.0 ≡ time_of table k.1 1) keys key old.times (time ∙ ap (λ p. time_of table p 1) (sym at));
@@ -73,12 +71,9 @@ keys_skip table i keys old tam = record {
   above = λ p h. old.above p (omega arith);
 }
 
-at_or_above : (p n : ℕ) → (p < n) ⊎ (n ≤ p)
-at_or_above p n = grind arith
-
 pub keys_all : (table : TableValue) (i : ℕ) (keys : List Key) → IsTable table → AreKeysBelow table i keys → places_of table ≤ i → (p : ℕ) → times_listed p (map place_of keys) ≡ due table p
 keys_all table i keys laws all end p =
-    elim (at_or_above p i) [
+    elim (less_or_not p i) [
       | inl less ↦ all.below p less
       | inr past ↦ let a = all.above p past in let d : due table p ≡ 0 = due_past past (has_tam table p) refl in omega arith
     ]
@@ -105,9 +100,6 @@ later-same s t p q same h =
     let e : nat_cmp s t ≡ Equal = sym (nat_cmp_is s t Equal same) in
     let k : is_lt (ordering_then Equal (nat_cmp q p)) ≡ false = subst (λ o. is_lt (ordering_then o (nat_cmp q p)) ≡ false) e h in
     ge_from_not_lt q p k
-
-three_ways : (s t : ℕ) → (s < t) ⊎ ((s ≡ t) ⊎ (t < s))
-three_ways s t = grind arith
 
 later : (s t p q : ℕ) → (p ≡ q → ⊥) → is_lt (ordering_then (nat_cmp s t) (nat_cmp q p)) ≡ false → (t < s) ⊎ ((s ≡ t) × (p < q))
 later s t p q differ h = elim (three_ways s t) [

@@ -8,8 +8,6 @@ use Rattle.plan_model.specs.Plans.{PlanValue, LimitsValue, PlannedTest, planned,
 use Rattle.plan_model.specs.Right.{IsAt, Meet}
 use Rattle.plan_model.specs.Rules.{IsGood}
 use Rattle.plan_model.specs.SoundLimits.{IsSoundLimits}
-use Rattle.plan_model.proofs.Finding.{in_filter}
-use Rattle.plan_model.proofs.Lists.{any_at}
 use Rattle.plan_model.proofs.PlannedTests.{Origin}
 use Rattle.plan_model.proofs.PowerAndAreaBounds.{planned_bus_width, some_width}
 use Rattle.plan_model.proofs.TurnBounds.{plan_of}
@@ -23,6 +21,7 @@ use Rattle.bus_proofs.proofs.LeafBounds.{IsTimed, SomeWire}
 use Rattle.bus_proofs.proofs.PackBounds.{leaves_none}
 use Rattle.bus_proofs.proofs.Rankings.{plans_have_rankings, ByRanks, by_ranks, root_in}
 use Rattle.bus_proofs.proofs.Trees.{tree_none}
+use Rattle.common_lemmas.proofs.Lists.{any_at, in_filter}
 
 -- ---- the laws of the crates below
 

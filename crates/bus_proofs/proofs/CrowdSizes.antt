@@ -11,13 +11,12 @@ use Rattle.soc_model.specs.Chips.{SocValue, LiveTest, live_tests, id_of, same_te
 use Rattle.soc_model.specs.SoundChips.{IsSoundChip}
 use Rattle.plan_model.specs.Plans.{LimitsValue}
 use Rattle.plan_model.specs.Rules.{live_ids}
-use Rattle.plan_model.proofs.Lists.{contains_at, from_map}
 use Rattle.plan_model.proofs.Sums.{at_most_one, item-le-sum_by, one_if}
 use Rattle.plan_model.proofs.CertificatesAreBounds.{same_test_is}
 use Rattle.live_tests.proofs.HowMany.{live_tests-le}
-use Rattle.bound_rules.proofs.Modules.{same_sum}
 use Rattle.proof_model.specs.Proofs.{ListValue, OfTurns, OfTurnsOn, OfCrowd, OfPower}
 use Rattle.bus_proofs.specs.Lists.{IsCrowd, KeepsList, room_of}
+use Rattle.common_lemmas.proofs.Lists.{sums_agree, contains_at, from_map}
 
 -- ---- each of some things is met by another one, and none of these meets two
 
@@ -32,7 +31,7 @@ met p (x ∷ xs) ys h =
     let rest : length xs ≤ sum_by (λ y. sum_by (λ x. one_if (p x y)) xs) ys = met p xs ys (λ i z at. h (suc i) z at) in
     let both = sums_add (λ y. one_if (p x y)) (λ y. sum_by (λ x. one_if (p x y)) xs) ys in
     let turned : sum_by (λ y. one_if (p x y) + sum_by (λ x. one_if (p x y)) xs) ys ≡ sum_by (λ y. sum_by (λ x. one_if (p x y)) (x ∷ xs)) ys =
-    same_sum (λ y. one_if (p x y) + sum_by (λ x. one_if (p x y)) xs) (λ y. sum_by (λ x. one_if (p x y)) (x ∷ xs)) ys (λ y. sym (sum_by-cons (λ x. one_if (p x y)) x xs)) in
+    sums_agree (λ y. one_if (p x y) + sum_by (λ x. one_if (p x y)) xs) (λ y. sum_by (λ x. one_if (p x y)) (x ∷ xs)) ys (λ y. sym (sum_by-cons (λ x. one_if (p x y)) x xs)) in
     omega (arith, first, rest, both, turned)
 
 crowd_long : (soc : SocValue) (limits : LimitsValue) (most : ℕ) (tests : List TestId) → IsCrowd soc limits most tests → length tests ≤ length (live_tests soc)

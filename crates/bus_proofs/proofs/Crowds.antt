@@ -8,7 +8,6 @@ use Rattle.std.proofs.lemmas.List.Sums.{sum_by-cons}
 use Rattle.soc_model.specs.declared.TestId.{TestId}
 use Rattle.soc_model.specs.Chips.{SocValue, LiveTest, live_tests, id_of}
 use Rattle.soc_model.specs.SoundChips.{IsSoundChip}
-use Rattle.soc_model.proofs.Sums.{sum_by-map}
 use Rattle.plan_model.specs.Plans.{PlanValue, LimitsValue, planned, planned_test, of_first, power_of, power_of_id, is_active}
 use Rattle.plan_model.specs.Rules.{IsGood, Power}
 use Rattle.plan_model.specs.Certificates.{is_called}
@@ -21,6 +20,7 @@ use Rattle.bus_proofs.specs.Lists.{is_among, least_power_of, least_together, IsC
 use Rattle.bus_proofs.proofs.Active.{time_of, ends, few_bound}
 use Rattle.bus_proofs.proofs.Least.{threshold}
 use Rattle.bus_proofs.proofs.Turns.{one_place}
+use Rattle.common_lemmas.proofs.Lists.{sum_map}
 
 -- ---- the power of live tests at a cycle
 
@@ -37,7 +37,7 @@ pub draws-le : (soc : SocValue) (limits : LimitsValue) (plan : PlanValue) → Is
 unfolding planned
 draws-le soc limits plan good limit is c =
     let within : sum_by (λ t. while_active (power_of limits t) t c) (planned soc plan) ≤ limit = rw sum_by-filter at (rw is at (good Power c)) in
-    let all : sum_by (λ t. while_active (power_of limits t) t c) (map (plan_of plan) (live_tests soc)) ≡ sum_by (λ l. while_active (power_of limits (plan_of plan l)) (plan_of plan l) c) (live_tests soc) = sum_by-map (λ t. while_active (power_of limits t) t c) (plan_of plan) (live_tests soc) in
+    let all : sum_by (λ t. while_active (power_of limits t) t c) (map (plan_of plan) (live_tests soc)) ≡ sum_by (λ l. while_active (power_of limits (plan_of plan l)) (plan_of plan l) c) (live_tests soc) = sum_map (λ t. while_active (power_of limits t) t c) (plan_of plan) (live_tests soc) in
     let same : sum_by (λ l. while_active (draw_of limits l) (plan_of plan l) c) (live_tests soc) ≤ sum_by (λ l. while_active (power_of limits (plan_of plan l)) (plan_of plan l) c) (live_tests soc) =
     sum_by-le_at (λ l. while_active (draw_of limits l) (plan_of plan l) c) (λ l. while_active (power_of limits (plan_of plan l)) (plan_of plan l) c) (live_tests soc) (λ i l at. omega (arith, planned_draw plan limits c l)) in
     omega (arith, within, all, same)
@@ -156,7 +156,7 @@ crowd_at soc limits plan sound good draws most tests limit many is heavy c = eli
         among_bound (λ l. v - least_power limits l) (live_tests soc) (one_place soc sound) tests in
         let firsts : sum_by (λ id. of_first (is_called id) (λ l. v - least_power limits l) 0 (live_tests soc)) tests ≤ sum_by (λ id. v - least_power_of soc limits id) tests =
         sum_by-le_at (λ id. of_first (is_called id) (λ l. v - least_power limits l) 0 (live_tests soc)) (λ id. v - least_power_of soc limits id) tests (λ i id at. first_short id (least_power limits) v (live_tests soc)) in
-        let mapped : sum_by (λ x. v - x) (map (least_power_of soc limits) tests) ≡ sum_by (λ id. v - least_power_of soc limits id) tests = sum_by-map (λ x. v - x) (least_power_of soc limits) tests in
+        let mapped : sum_by (λ x. v - x) (map (least_power_of soc limits) tests) ≡ sum_by (λ id. v - least_power_of soc limits id) tests = sum_map (λ x. v - x) (least_power_of soc limits) tests in
         omega (arith, heavy, at, some, short, power, within, all, named, firsts, mapped)
 
 pub crowd_fits : (soc : SocValue) (limits : LimitsValue) (plan : PlanValue) → IsSoundChip soc → IsGood soc limits plan → LeastDraws soc limits → (most : ℕ) (tests : List TestId) → IsCrowd soc limits most tests →

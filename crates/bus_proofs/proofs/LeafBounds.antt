@@ -11,7 +11,6 @@ use Rattle.plan_model.specs.Plans.{PlanValue, LimitsValue}
 use Rattle.plan_model.specs.Rules.{IsGood, Busy}
 use Rattle.plan_model.specs.Bounds.{sum_below, is_of}
 use Rattle.plan_model.specs.Certificates.{passes, has_tam_at}
-use Rattle.plan_model.proofs.Finding.{in_filter}
 use Rattle.plan_model.proofs.GoodPlansRunRight.{planned_place}
 use Rattle.plan_model.proofs.Lists.{from_filter, any_from}
 use Rattle.plan_model.proofs.PlannedTests.{IsLive, live_at}
@@ -34,6 +33,8 @@ use Rattle.bus_proofs.proofs.Crowds.{LeastDraws, crowd_fits}
 use Rattle.bus_proofs.proofs.Powers.{powers_fit}
 use Rattle.bus_proofs.proofs.Weighed.{weighed-le, weighed-add, weighed-times, weighed-below, use_of-mono, by_module, by_rank, rate_of, rates-le}
 use Rattle.bus_proofs.proofs.Slots.{known_rank, slot_there, smallest-le}
+use Rattle.common_lemmas.proofs.Tests.{if_le}
+use Rattle.common_lemmas.proofs.Lists.{in_filter}
 
 -- ---- what is known of a plan
 
@@ -66,10 +67,6 @@ wired_module soc p = go (slice_get soc.modules p) refl
     go (Some m) e h = (m, e, h)
 
 -- ---- sums of two
-
-pub if-le : (b : Bool) (x y : ℕ) → (b ≡ true → x ≤ y) → (if b then x else 0) ≤ (if b then y else 0)
-if-le true x y h = h refl
-if-le false x y h = omega arith
 
 sums-le : {X : Type 0} (f g h : X → ℕ) (xs : List X) → ((i : ℕ) (x : X) → slice_get xs i ≡ Some x → f x + g x ≤ h x) → sum_by f xs + sum_by g xs ≤ sum_by h xs
 sums-le f g h [] each = omega arith
@@ -190,7 +187,7 @@ pub module_uses-le : (soc : SocValue) (limits : LimitsValue) (lists : List ListV
 module_uses-le soc limits lists plan claim c weights f rank top h p =
     weighed-le lists weights (module_use soc limits p (own_slot c weights f rank p)) (λ list. sum_by (λ l. if l.test.tam && is_of p l then planned_use soc limits plan c rank list l else 0) (live_tests soc))
     (λ n list there. sum_by-le_at (λ l. if l.test.tam && is_of p l then use_of soc limits (is_rank (known_rank (known_ranks c) (rank p))) list (packed_time l.core l.test (f (rank p))) l else 0) (λ l. if l.test.tam && is_of p l then planned_use soc limits plan c rank list l else 0) (live_tests soc)
-    (λ i l at. if-le (l.test.tam && is_of p l) (use_of soc limits (is_rank (known_rank (known_ranks c) (rank p))) list (packed_time l.core l.test (f (rank p))) l) (planned_use soc limits plan c rank list l) (λ both. used list i l at both)))
+    (λ i l at. if_le (l.test.tam && is_of p l) (use_of soc limits (is_rank (known_rank (known_ranks c) (rank p))) list (packed_time l.core l.test (f (rank p))) l) (planned_use soc limits plan c rank list l) (λ both. used list i l at both)))
   where
     same_place : (l : LiveTest) → l.test.tam && is_of p l ≡ true → p ≡ l.place
     same_place l both = sym (eqb-true l.place p (and_parts l.test.tam (is_of p l) both).1)
@@ -210,7 +207,7 @@ cost-le soc limits lists plan claim c weights f rank top h p =
     sum_by-times (λ (l : LiveTest). l.test.tam && is_of p l) (λ l. packed_time l.core l.test (f (rank p))) (rate_of f c weights (rank p)) (live_tests soc) in
     let rates : sum_by (λ l. if l.test.tam && is_of p l then rate_of f c weights (rank p) * packed_time l.core l.test (f (rank p)) else 0) (live_tests soc) ≤ sum_by (λ l. if l.test.tam && is_of p l then rate_of f c weights (rank l.place) * time_of plan l else 0) (live_tests soc) =
     sum_by-le_at (λ l. if l.test.tam && is_of p l then rate_of f c weights (rank p) * packed_time l.core l.test (f (rank p)) else 0) (λ l. if l.test.tam && is_of p l then rate_of f c weights (rank l.place) * time_of plan l else 0) (live_tests soc)
-    (λ i l at. if-le (l.test.tam && is_of p l) (rate_of f c weights (rank p) * packed_time l.core l.test (f (rank p))) (rate_of f c weights (rank l.place) * time_of plan l) (λ both. rated i l at both)) in
+    (λ i l at. if_le (l.test.tam && is_of p l) (rate_of f c weights (rank p) * packed_time l.core l.test (f (rank p))) (rate_of f c weights (rank l.place) * time_of plan l) (λ both. rated i l at both)) in
     let uses : weighed lists weights (module_use soc limits p (own_slot c weights f rank p)) ≤ weighed lists weights (λ list. sum_by (λ l. if l.test.tam && is_of p l then planned_use soc limits plan c rank list l else 0) (live_tests soc)) =
     module_uses-le soc limits lists plan claim c weights f rank top h p in
     omega (arith, product, rates, uses)

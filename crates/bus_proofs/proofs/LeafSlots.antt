@@ -6,8 +6,7 @@ use Rattle.std.proofs.lemmas.Bool.{cases_eq, cases_lt}
 use Rattle.soc_model.specs.Chips.{SocValue}
 use Rattle.packed_times.specs.Packed.{packed_tam_time}
 use Rattle.plan_model.specs.Plans.{smallest}
-use Rattle.plan_model.proofs.Lists.{from_append, from_map, from_flat_map, from_filter}
-use Rattle.plan_model.proofs.Finding.{in_filter}
+use Rattle.plan_model.proofs.Lists.{from_append, from_flat_map, from_filter}
 use Rattle.bus_proofs.specs.declared.case.CaseRoom.{CaseRoom}
 use Rattle.bus_proofs.specs.declared.places.Placing.{Placing}
 use Rattle.bus_proofs.specs.CaseRooms.{IsCaseOf}
@@ -22,6 +21,7 @@ use Rattle.bus_proofs.specs.Cases.{Case, known_ranks, low_at, high_at}
 use Rattle.bus_proofs.specs.Leaves.{Slot, slot, from_to, slot_at, slots_at, rest_high, rest_slot, rest_slots, all_slots, is_short}
 use Rattle.bus_proofs.specs.LeafSlots.{IsCostOf, IsLeast, IsLeastOf, IsLesserOf, IsLesserOfOne, IsOfModule, IsOfRange, IsOfRank, IsOfRanks, IsOfRest, costs_at, lesser, range_slot, rank_range, rest_range}
 use Rattle.bus_proofs.proofs.Slots.{of_known, of_rest, smallest-le}
+use Rattle.common_lemmas.proofs.Lists.{in_filter, from_map}
 
 -- ---- the least of two
 

@@ -17,7 +17,7 @@ use Rattle.plan_model.specs.Certificates.{on}
 use Rattle.plan_model.proofs.PlannedTests.{IsLive, live_at}
 use Rattle.plan_model.proofs.Lists.{from_filter}
 use Rattle.plan_model.proofs.Sums.{sum_by-le_at}
-use Rattle.bound_rules.proofs.Modules.{the_live, only_module, sum_of_module, same_sum}
+use Rattle.bound_rules.proofs.Modules.{the_live, only_module, sum_of_module}
 use Rattle.bound_rules.proofs.Works.{live_patterns}
 use Rattle.bound_rules.proofs.SoundWork.{live_work-le_live}
 use Rattle.soc_model.specs.SoundChips.{IsSoundChip}
@@ -36,11 +36,12 @@ use Rattle.bus_proofs.specs.declared.leaf_costs.Weighed.{Weighed}
 use Rattle.bus_proofs.specs.LeafCosts.{AreUses, IsIdle, IsWeighed, USES_COST_MOST, beside_use, drawn_use, is_over, kind_cost, test_cost, weighed_by}
 use Rattle.bus_proofs.proofs.Weighed.{weighed-add}
 use Rattle.bus_proofs.proofs.LeafSums.{uses-le}
+use Rattle.common_lemmas.proofs.Lists.{sums_agree}
 
 -- ---- over lists, then tests: over tests, then lists
 
 weighed_same : (lists : List ListValue) (weights : WeightsValue) (f g : ListValue → ℕ) → ((list : ListValue) → f list ≡ g list) → weighed lists weights f ≡ weighed lists weights g
-weighed_same lists weights f g same = same_sum (λ (o : ℕ × ℕ). o.1 * on (slice_get lists o.0) f) (λ (o : ℕ × ℕ). o.1 * on (slice_get lists o.0) g) weights.lists (λ o. ap (λ v. o.1 * v) (one (slice_get lists o.0)))
+weighed_same lists weights f g same = sums_agree (λ (o : ℕ × ℕ). o.1 * on (slice_get lists o.0) f) (λ (o : ℕ × ℕ). o.1 * on (slice_get lists o.0) g) weights.lists (λ o. ap (λ v. o.1 * v) (one (slice_get lists o.0)))
   where
     one : (o : Option ListValue) → on o f ≡ on o g
     one None = refl
@@ -125,7 +126,7 @@ pub sum_in_module : (f : LiveTest → ℕ) (soc : SocValue) (p : ℕ) (m : Modul
     sum_where (λ l. l.test.tam && is_of p l) f soc ≡ sum_by (λ l. if l.test.tam then f l else 0) (live_of p m)
 sum_in_module f soc p m at =
     only_module (λ l. if l.test.tam && is_of p l then f l else 0) soc p m (λ l other. elsewhere l l.test.tam other) at
-    ∙ same_sum (λ t. if is_live t then (if t.tam && nat_eq p p then f (the_live p m t) else 0) else 0) (λ t. if is_live t then (if t.tam then f (the_live p m t) else 0) else 0) m.tests (λ t. each t t.tam)
+    ∙ sums_agree (λ t. if is_live t then (if t.tam && nat_eq p p then f (the_live p m t) else 0) else 0) (λ t. if is_live t then (if t.tam then f (the_live p m t) else 0) else 0) m.tests (λ t. each t t.tam)
     ∙ sym (sum_of_module (λ l. if l.test.tam then f l else 0) p m)
   where
     elsewhere : (l : LiveTest) (tam : Bool) → l.place ≢ p → (if tam && is_of p l then f l else 0) ≡ 0
@@ -170,7 +171,7 @@ self_uses g weights costs n all is =
     let here : costs ≡ sum_by (kind_cost g weights false None 1) (live_tests (chip_of g)) = omega (arith, is') in
     let turned : weighed (lists_of g) weights (self_use (chip_of g) (limits_of g)) ≡ sum_by (λ l. if not l.test.tam then weighed (lists_of g) weights (λ list. use_of (chip_of g) (limits_of g) (λ rank. false) list l.test.patterns l) else 0) (live_tests (chip_of g)) =
     weighed_sum (lists_of g) weights (λ l. not l.test.tam) (λ list l. use_of (chip_of g) (limits_of g) (λ rank. false) list l.test.patterns l) (live_tests (chip_of g)) in
-    here ∙ same_sum (kind_cost g weights false None 1) (λ l. if not l.test.tam then weighed (lists_of g) weights (λ list. use_of (chip_of g) (limits_of g) (λ rank. false) list l.test.patterns l) else 0) (live_tests (chip_of g)) (λ l. each l) ∙ sym turned
+    here ∙ sums_agree (kind_cost g weights false None 1) (λ l. if not l.test.tam then weighed (lists_of g) weights (λ list. use_of (chip_of g) (limits_of g) (λ rank. false) list l.test.patterns l) else 0) (live_tests (chip_of g)) (λ l. each l) ∙ sym turned
   where
     part : (tam : Bool) (x y : ℕ) → (tam ≡ false → x ≡ y) → (if not tam then x else 0) ≡ (if not tam then y else 0)
     part true x y h = refl
@@ -219,11 +220,6 @@ costs_fit g weights wires rank width from n sum is uses some total =
     omega (arith, total, all_costs-le g weights wires rank width is uses some, sum_by-take-drop (kind_cost g weights wires rank width) (live_tests (chip_of g)) from)
 
 -- ---- one live test
-
-pub some_at : {X : Type 0} (xs : List X) (i : ℕ) → i < length xs → (x : X) × (slice_get xs i ≡ Some x)
-some_at [] i h = absurd (omega arith)
-some_at (x ∷ xs) zero h = (x, refl)
-some_at (x ∷ xs) (suc i) h = some_at xs i (omega arith)
 
 pub own_core : (soc : SocValue) (limits : Limits) (l : LiveTest) (t : TestPlace) (m : ModuleValue) → IsTestAt soc limits l t → slice_get soc.modules t.«module» ≡ Some m → l.core ≡ m
 own_core soc limits l t m is at = same_Some l.core m (sym is.core ∙ ap (slice_get soc.modules) (sym is.«module») ∙ at)

@@ -4,7 +4,7 @@ use Rattle.std.specs.Prelude.{◌&&◌, nat_lt, slice_get, slice_index, slice_se
 use Rattle.std.proofs.lemmas.Bool.{cases_eq, cases_lt, le-ltb, lt-ltb}
 use Rattle.std.proofs.lemmas.List.{get_or-set_other, get_or-set_same, length-replicate}
 use Rattle.std.proofs.lemmas.Option.{slice_get_within}
-use Rattle.live_tests.proofs.WrittenParents.{set_else, set_here}
+use Rattle.live_tests.proofs.WrittenParents.{set_else}
 use Rattle.plan_model.proofs.Lists.{slice_get-replicate}
 use Rattle.packed_times.specs.Packed.{packed_tam_time, self_test_time}
 use Rattle.pack_leaves.specs.Knapsacks.{most_worth, with_item}
@@ -23,6 +23,7 @@ use Rattle.bus_proofs.specs.PackLeaves.{ArePlaces, bus_at, bus_rank, cells_of, c
 use Rattle.bus_proofs.specs.PackBuses.{AreKept, IsKeptAt, IsLikeItem, IsLikeRank, IsWorth, bus_most}
 use Rattle.bus_proofs.proofs.RanksTried.{HasNoList, IsAside, known_aside, lower_rate}
 use Rattle.bus_proofs.proofs.WiderSlots.{PackedTimesFall, wider_costs, wider_uses}
+use Rattle.common_lemmas.proofs.Lists.{set_here}
 
 -- ---- items that are alike
 

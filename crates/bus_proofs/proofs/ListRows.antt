@@ -21,7 +21,7 @@ use Rattle.bus_proofs.specs.declared.list_table.Role.TheVariants.{Out, Drawing}
 use Rattle.bus_proofs.specs.ListTables.{IsListTable, KeepFirst, role_of}
 use Rattle.bus_proofs.specs.ListRules.{AreCrowdMarks, AreHeavy, AreTurnMarks, IsListRules, among_of, chip_ruled, limits_ruled, member_role, roles_in, turn_role}
 use Rattle.bus_proofs.specs.Takings.{bit_at}
-use Rattle.bus_proofs.proofs.LeafTests.{some_at}
+use Rattle.common_lemmas.proofs.Lists.{in_take, some_item}
 
 -- ---- rows of one length
 
@@ -42,12 +42,6 @@ row_at f (y ∷ xs) w every d (suc n) i x at within =
     let more : suc n * w ≡ n * w + w = omega arith in
     let behind : suc n * w + i ≡ length (f y) + (n * w + i) = omega (arith, every y, more) in
     ap (λ k. get_or (f y ++ flat_map f xs) k d) behind ∙ get_or-append-add (f y) (flat_map f xs) (n * w + i) d ∙ row_at f xs w every d n i x at within
-
-in_front : {X : Type 0} (xs : List X) (k n : ℕ) (x : X) → n < k → slice_get xs n ≡ Some x → slice_get (take k xs) n ≡ Some x
-in_front [] k n x less at = absurd cc
-in_front (y ∷ xs) zero n x less at = absurd (omega (arith, less))
-in_front (y ∷ xs) (suc k) zero x less at = at
-in_front (y ∷ xs) (suc k) (suc n) x less at = in_front xs k n x (omega (arith, less)) at
 
 -- ---- one item more
 
@@ -115,7 +109,7 @@ pub turns_on_more : (r : ListRules) (rank : ℕ) (tests : List TestId) (m : Turn
     old ≡ start ++ map (role_of (chip_ruled r) (limits_ruled r) (OfTurnsOn rank tests)) (take i (live_tests (chip_ruled r))) → new ≡ old ++ role ∷ [] →
     new ≡ start ++ map (role_of (chip_ruled r) (limits_ruled r) (OfTurnsOn rank tests)) (take (i + 1) (live_tests (chip_ruled r)))
 turns_on_more r rank tests m start old new i among tam apart role are marks within a t p is was more =
-    let l = some_at (live_tests (chip_ruled r)) i (omega (arith, within, ap length are.tams ∙ length-map (live_tests (chip_ruled r)) (λ (l : LiveTest). l.test.tam))) in
+    let l = some_item (live_tests (chip_ruled r)) i (omega (arith, within, ap length are.tams ∙ length-map (live_tests (chip_ruled r)) (λ (l : LiveTest). l.test.tam))) in
     let a' : among ≡ is_among tests l.0 = a ∙ mark_is (is_among tests) (live_tests (chip_ruled r)) m.among.items i l.0 marks.among l.1 in
     let t' : tam ≡ l.0.test.tam = t ∙ mark_is (λ (l : LiveTest). l.test.tam) (live_tests (chip_ruled r)) r.tams.items i l.0 are.tams l.1 in
     let p' : apart ≡ excludes_all (chip_ruled r) (limits_ruled r) tests l.0 = p ∙ mark_is (excludes_all (chip_ruled r) (limits_ruled r) tests) (live_tests (chip_ruled r)) m.apart.items i l.0 marks.apart l.1 in
@@ -141,7 +135,7 @@ is_list_table soc limits lists table tests first roles = record {
   long = ap length roles ∙ rows_long rows (take table.kept lists) table.tests every ∙ ap (λ n. n * table.tests) (length-take-le table.kept lists (kept_within soc limits lists table.kept first));
   roles = λ n i list l less at at-l.
       ap (λ r. get_or r (n * table.tests + i) Out) roles
-      ∙ row_at rows (take table.kept lists) table.tests every Out n i list (in_front lists table.kept n list less at) (omega (arith, tests, slice_get_within (live_tests soc) i l at-l))
+      ∙ row_at rows (take table.kept lists) table.tests every Out n i list (in_take lists table.kept n list less at) (omega (arith, tests, slice_get_within (live_tests soc) i l at-l))
       ∙ get_or_from_slice_get (rows list) i (role_of soc limits list l) Out (slice_get-map (role_of soc limits list) (live_tests soc) i ∙ rw at-l refl);
 }
   where

@@ -14,7 +14,7 @@ use Rattle.plan_model.specs.Rules.{live_ids}
 use Rattle.plan_model.proofs.CertificatesAreBounds.{same_test_is, is_same_test}
 use Rattle.plan_model.specs.Certificates.{is_called}
 use Rattle.plan_model.proofs.FirstBreaches.{EachTo, each_more, each_all}
-use Rattle.plan_model.proofs.Lists.{at_contains, contains_at, any_at, any_from}
+use Rattle.plan_model.proofs.Lists.{at_contains, any_from}
 use Rattle.plan_model.proofs.PlannedTests.{of_first_is}
 use Rattle.exclusions.specs.Exclusions.{excludes, least_power}
 use Rattle.exclusions.specs.Rows.{HasRow}
@@ -26,6 +26,7 @@ use Rattle.bus_proofs.specs.declared.list_rules.CrowdMarks.{CrowdMarks}
 use Rattle.bus_proofs.specs.Lists.{is_among, names_exclude, excludes_all, least_power_of, IsTurn, IsCrowdItem}
 use Rattle.bus_proofs.specs.ListRules.{among_of, apart_of, both_marked, chip_ruled, limits_ruled, AreCrowdMarks, AreTurnMarks, IsListRules, MemberAdded, MembersMarked, TurnAdded, TurnsMarked}
 use Rattle.bus_proofs.proofs.Turns.{one_place, place_is, name_at}
+use Rattle.common_lemmas.proofs.Lists.{contains_at, any_at}
 
 -- ---- where a name stands
 

@@ -33,6 +33,7 @@ use Rattle.bus_proofs.proofs.LeafBounds.{IsTimed, Leafing, SomeWire, empty_none,
 use Rattle.bus_proofs.proofs.Slots.{rest_fits}
 use Rattle.bus_proofs.proofs.Trees.{LeavesHaveNone}
 use Rattle.bus_proofs.proofs.Weighed.{by_module, weighed-le, weighed-below}
+use Rattle.common_lemmas.proofs.Tests.{if_le}
 
 -- ---- the places of priced modules
 
@@ -148,10 +149,6 @@ uses_at soc limits lists plan c pricing rank p =
 item_tam : (soc : SocValue) (pricing : PricingValue) (i : ℕ) → ArePricedOnce soc pricing.prices → i < length pricing.prices → has_tam_at soc (priced_place soc pricing i) ≡ true
 item_tam soc pricing i once within = called_wired soc (slice_index (numbers_priced pricing.prices) i) (item_wired soc pricing i once within)
 
-if-less : (b : Bool) (x y : ℕ) → (b ≡ true → x ≤ y) → (if b then x else 0) ≤ (if b then y else 0)
-if-less true x y h = h refl
-if-less false x y h = omega arith
-
 -- the modules on a bus take no longer than the plan, so that they fit in its cells
 load_fits : (soc : SocValue) (limits : LimitsValue) (lists : List ListValue) (plan : PlanValue) (claim : ℕ) (c : Case) (pricing : PricingValue) (f rank : ℕ → ℕ) (top : ℕ) → Packing soc limits lists plan claim c pricing f rank top →
     (k : ℕ) → sum_below (λ i. if nat_eq (bus_of soc pricing rank i) k then cells_taken soc pricing (priced_place soc pricing i) (f k) else 0) (length pricing.prices) ≤ cells_of claim pricing
@@ -192,7 +189,7 @@ load_fits soc limits lists plan claim c pricing f rank top h k =
     of_module : (p : ℕ) → (nat_eq (rank p) k ≡ true) ⊎ (nat_eq (rank p) k ≡ false) → (if nat_eq (rank p) k then packed_tam_time soc p (f k) else 0) ≤ sum_by (λ l. if l.test.tam && is_of p l then (if nat_eq (rank l.place) k then time_of plan l else 0) else 0) (live_tests soc)
     of_module p (inr off) = rw off (omega arith)
     of_module p (inl here) = rw here (sum_by-le_at (λ l. if l.test.tam && is_of p l then packed_time l.core l.test (f k) else 0) (λ l. if l.test.tam && is_of p l then (if nat_eq (rank l.place) k then time_of plan l else 0) else 0) (live_tests soc)
-        (λ i l at. if-less (l.test.tam && is_of p l) (packed_time l.core l.test (f k)) (if nat_eq (rank l.place) k then time_of plan l else 0) (λ both. one i l at both)))
+        (λ i l at. if_le (l.test.tam && is_of p l) (packed_time l.core l.test (f k)) (if nat_eq (rank l.place) k then time_of plan l else 0) (λ both. one i l at both)))
       where
         one : (i : ℕ) (l : LiveTest) → slice_get (live_tests soc) i ≡ Some l → l.test.tam && is_of p l ≡ true → packed_time l.core l.test (f k) ≤ (if nat_eq (rank l.place) k then time_of plan l else 0)
         one i l at both =

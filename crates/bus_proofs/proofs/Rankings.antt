@@ -15,7 +15,7 @@ use Rattle.plan_model.specs.Plans.{BusValue, PlanValue, LimitsValue, widths, bus
 use Rattle.plan_model.specs.Rules.{IsGood, Places, listed}
 use Rattle.plan_model.specs.Bounds.{sum_below}
 use Rattle.plan_model.specs.Certificates.{on, passes, has_tam_at}
-use Rattle.plan_model.proofs.Lists.{contains_at, from_flat_map, any_from}
+use Rattle.plan_model.proofs.Lists.{from_flat_map, any_from}
 use Rattle.plan_model.proofs.LowerTimes.{sum_places}
 use Rattle.plan_model.proofs.PowerAndAreaBounds.{widths_fit}
 use Rattle.bus_proofs.specs.Cases.{Case, known_ranks, root_case}
@@ -24,6 +24,7 @@ use Rattle.bus_proofs.specs.Laws.{PlansHaveRankings}
 use Rattle.bus_proofs.proofs.Intervals.{Falls, sum_below-first}
 use Rattle.bus_proofs.proofs.Steps.{IsIn, Fits}
 use Rattle.bus_proofs.proofs.Trees.{IsRanked}
+use Rattle.common_lemmas.proofs.Lists.{contains_at}
 
 -- ---- numbers in falling order of what `g` gives
 

@@ -7,13 +7,14 @@ use Rattle.std.proofs.lemmas.List.{get_or_past}
 use Rattle.std.proofs.lemmas.Option.{slice_get-map}
 use Rattle.plan_model.specs.Plans.{smallest}
 use Rattle.plan_model.specs.Bounds.{sum_below}
-use Rattle.plan_model.proofs.Lists.{in_append_left, in_append_right, in_flat_map}
+use Rattle.plan_model.proofs.Lists.{in_append_right, in_flat_map}
 use Rattle.proof_model.specs.Proofs.{WeightsValue}
 use Rattle.bus_proofs.specs.Cases.{Case, known_ranks, low_at, high_at, interval, least_wires}
 use Rattle.bus_proofs.specs.Leaves.{Slot, slot, from_to, rank_weight, slots_at, rest_high, rest_slots, all_slots}
 use Rattle.bus_proofs.proofs.Intervals.{AreLows, AreHighs, Falls, falls_far, term-le, lows-le, sum_below-first}
 use Rattle.bus_proofs.proofs.Steps.{Fits}
 use Rattle.bus_proofs.proofs.Weighed.{rate_of}
+use Rattle.common_lemmas.proofs.Lists.{map_at, at_left}
 
 -- a rank, where the case speaks of it
 abbrev pub known_rank : (known rank : ℕ) → Option ℕ
@@ -26,9 +27,6 @@ in_range a (suc n) v from to = elim (cases_eq a v) [
   | inr other ↦ let r = in_range (a + 1) n v (omega (arith, other)) (omega arith) in (suc r.0, r.1)
 ]
 
-mapped_at : {X Y : Type 0} (g : X → Y) (xs : List X) (i : ℕ) (x : X) → slice_get xs i ≡ Some x → slice_get (map g xs) i ≡ Some (g x)
-mapped_at g xs i x at = slice_get-map g xs i ∙ rw at refl
-
 -- a slot of the module at a place
 abbrev HasSlot : (w : ℕ) → Case → WeightsValue → ℕ → Slot → Type 0
 HasSlot w c weights p s = (n : ℕ) × (slice_get (all_slots w c weights p) n ≡ Some s)
@@ -37,15 +35,15 @@ pub of_known : (w : ℕ) (c : Case) (weights : WeightsValue) (p r v : ℕ) → r
 of_known w c weights p r v known may some low high =
     let at = in_range (max 1 (low_at c r)) (high_at c r + 1 - max 1 (low_at c r)) v (omega arith) (omega arith) in
     let here : slice_get (slots_at c weights r) at.0 ≡ Some (slot (Some r) v (rank_weight weights r + weights.wire * (v - low_at c r))) =
-    mapped_at (λ v. slot (Some r) v (rank_weight weights r + weights.wire * (v - low_at c r))) (from_to (max 1 (low_at c r)) (high_at c r)) at.0 v at.1 in
+    map_at (λ v. slot (Some r) v (rank_weight weights r + weights.wire * (v - low_at c r))) (from_to (max 1 (low_at c r)) (high_at c r)) at.0 v at.1 in
     let k = in_range 0 (known_ranks c) r (omega arith) (omega arith) in
     let all = in_flat_map (λ rank. if c.may p rank then slots_at c weights rank else []) (range_with_len 0 (known_ranks c)) k.0 at.0 r (slot (Some r) v (rank_weight weights r + weights.wire * (v - low_at c r))) k.1 (rw may here) in
-    (all.0, in_append_left (flat_map (λ rank. if c.may p rank then slots_at c weights rank else []) (range_with_len 0 (known_ranks c))) (if c.may_rest p then rest_slots w c weights else []) all.0 (slot (Some r) v (rank_weight weights r + weights.wire * (v - low_at c r))) all.1)
+    (all.0, at_left (flat_map (λ rank. if c.may p rank then slots_at c weights rank else []) (range_with_len 0 (known_ranks c))) (if c.may_rest p then rest_slots w c weights else []) all.0 (slot (Some r) v (rank_weight weights r + weights.wire * (v - low_at c r))) all.1)
 
 pub of_rest : (w : ℕ) (c : Case) (weights : WeightsValue) (p v : ℕ) → c.may_rest p ≡ true → 1 ≤ v → v ≤ rest_high w c (known_ranks c) → HasSlot w c weights p (slot None v (weights.wire * v))
 of_rest w c weights p v may some high =
     let at = in_range 1 (rest_high w c (known_ranks c) + 1 - 1) v some (omega arith) in
-    let here : slice_get (rest_slots w c weights) at.0 ≡ Some (slot None v (weights.wire * v)) = mapped_at (λ v. slot None v (weights.wire * v)) (from_to 1 (rest_high w c (known_ranks c))) at.0 v at.1 in
+    let here : slice_get (rest_slots w c weights) at.0 ≡ Some (slot None v (weights.wire * v)) = map_at (λ v. slot None v (weights.wire * v)) (from_to 1 (rest_high w c (known_ranks c))) at.0 v at.1 in
     in_append_right (flat_map (λ rank. if c.may p rank then slots_at c weights rank else []) (range_with_len 0 (known_ranks c))) (if c.may_rest p then rest_slots w c weights else []) at.0 (slot None v (weights.wire * v)) (rw may here)
 
 none_below : (f : ℕ → ℕ) → sum_below f 0 ≡ 0

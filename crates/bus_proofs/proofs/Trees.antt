@@ -10,13 +10,14 @@ use Rattle.soc_model.specs.Modes.{has_tam}
 use Rattle.plan_model.specs.Plans.{PlanValue, LimitsValue, bus_place}
 use Rattle.plan_model.specs.Certificates.{has_tam_at}
 use Rattle.plan_model.proofs.CertificatesAreBounds.{place_or, some_place}
-use Rattle.plan_model.proofs.Lists.{any_at, at_contains, in_append_left, in_append_right}
+use Rattle.plan_model.proofs.Lists.{at_contains, in_append_right}
 use Rattle.plan_model.proofs.PowerAndAreaBounds.{bus_width}
 use Rattle.proof_model.specs.Proofs.{ListValue, LeafValue, SplitValue, OfWide, OfPlace, OfSplit, OfLeaf, CaseTree, Leaf, Branches}
 use Rattle.bus_proofs.specs.Cases.{Case, known_ranks, tightened, with_rank, narrow, wide, placed_on, placed_off, case_by, first_case, second_case, NodeCase, in_case, cases_of, AreTwins, KeepsSplit}
 use Rattle.bus_proofs.specs.Bounds.{AnyLeafHolds, AreEnough, IsEnough, KeepsLeaf, work_of_all}
 use Rattle.bus_proofs.proofs.Intervals.{Falls}
 use Rattle.bus_proofs.proofs.Steps.{IsIn, Fits, tightened_in, with_rank_in, narrow_in, wide_in, placed_on_in, placed_off_in, exchanged, exchanged_in, exchanged_at, exchanged_back}
+use Rattle.common_lemmas.proofs.Lists.{any_at, at_left}
 
 -- The buses of a plan by ranks: `f` is the width of each rank, `rank` of a module's place the rank of its bus, below `top`.
 pub record IsRanked (soc : SocValue) (plan : PlanValue) (w : ℕ) (f rank : ℕ → ℕ) (top : ℕ) : Type 0 where
@@ -105,7 +106,7 @@ abbrev pub AreEnoughAlone : SocValue → LimitsValue → List ListValue → (cla
 AreEnoughAlone soc limits lists claim nodes = (k : ℕ) (x : NodeCase) → slice_get nodes k ≡ Some x → (done : ℕ) × IsEnough soc limits lists claim done x
 
 first_enough : (soc : SocValue) (limits : LimitsValue) (lists : List ListValue) (claim : ℕ) (n : NodeCase) (xs ys : List NodeCase) → AreEnoughAlone soc limits lists claim (n ∷ (xs ++ ys)) → AreEnoughAlone soc limits lists claim xs
-first_enough soc limits lists claim n xs ys enough k x at = enough (suc k) x (in_append_left xs ys k x at)
+first_enough soc limits lists claim n xs ys enough k x at = enough (suc k) x (at_left xs ys k x at)
 
 second_enough : (soc : SocValue) (limits : LimitsValue) (lists : List ListValue) (claim : ℕ) (n : NodeCase) (xs ys : List NodeCase) → AreEnoughAlone soc limits lists claim (n ∷ (xs ++ ys)) → AreEnoughAlone soc limits lists claim ys
 second_enough soc limits lists claim n xs ys enough k x at = let r = in_append_right xs ys k x at in enough (suc r.0) x r.1

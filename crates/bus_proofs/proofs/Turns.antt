@@ -12,7 +12,7 @@ use Rattle.soc_model.specs.SoundChips.{IsSoundChip}
 use Rattle.plan_model.specs.Plans.{PlanValue, LimitsValue, planned_test, bus_place, is_active, IsActive}
 use Rattle.plan_model.specs.Rules.{IsGood, Each, Wires, live_ids}
 use Rattle.plan_model.proofs.CertificatesAreBounds.{same_test_is, is_same_test}
-use Rattle.plan_model.proofs.Lists.{at_contains, any_at}
+use Rattle.plan_model.proofs.Lists.{at_contains}
 use Rattle.plan_model.proofs.Sums.{at_most_one}
 use Rattle.plan_model.proofs.SumsOverCycles.{active_is}
 use Rattle.plan_model.proofs.TestsInGoodPlans.{planned_tam}
@@ -21,6 +21,7 @@ use Rattle.live_tests.proofs.LiveIds.{ids_differ}
 use Rattle.exclusions.specs.Exclusions.{excludes}
 use Rattle.bus_proofs.specs.Lists.{is_among, live_place, names_exclude, IsTurn, excludes_all, is_beside}
 use Rattle.bus_proofs.proofs.Active.{planned_at, time_of, ends, few_bound}
+use Rattle.common_lemmas.proofs.Lists.{any_at}
 
 -- ---- names
 

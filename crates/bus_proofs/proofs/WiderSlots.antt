@@ -16,8 +16,8 @@ use Rattle.proof_model.specs.Proofs.{ListValue, WeightsValue}
 use Rattle.bus_proofs.specs.Lists.{use_of}
 use Rattle.bus_proofs.specs.Leaves.{slot, is_rank, module_use, weighed}
 use Rattle.bus_proofs.specs.Laws.{WiderSlotsCostNoLess}
-use Rattle.bus_proofs.proofs.LeafBounds.{if-le}
 use Rattle.bus_proofs.proofs.Weighed.{weighed-le, use_of-mono}
+use Rattle.common_lemmas.proofs.Tests.{if_le}
 
 -- terms that are no greater, and as great together
 same_terms : {X : Type 0} (f g : X → ℕ) (xs : List X) → ((i : ℕ) (x : X) → slice_get xs i ≡ Some x → g x ≤ f x) → sum_by f xs ≤ sum_by g xs → (i : ℕ) (x : X) → slice_get xs i ≡ Some x → f x ≤ g x
@@ -45,7 +45,7 @@ each-le : PackedTimesFall → (soc : SocValue) (p v w : ℕ) → 1 ≤ v → v �
     l.test.tam && is_of p l ≡ true → packed_time l.core l.test v ≤ packed_time l.core l.test w
 each-le falls soc p v w some wide same i l at here =
     taken (l.test.tam && is_of p l) here (same_terms (λ l. if l.test.tam && is_of p l then packed_time l.core l.test v else 0) (λ l. if l.test.tam && is_of p l then packed_time l.core l.test w else 0) (live_tests soc)
-    (λ i l at. if-le (l.test.tam && is_of p l) (packed_time l.core l.test w) (packed_time l.core l.test v) (λ e. falls l.core l.test v w (live_patterns soc i l at) some wide)) same i l at)
+    (λ i l at. if_le (l.test.tam && is_of p l) (packed_time l.core l.test w) (packed_time l.core l.test v) (λ e. falls l.core l.test v w (live_patterns soc i l at) some wide)) same i l at)
   where
     taken : (b : Bool) → b ≡ true → (if b then packed_time l.core l.test v else 0) ≤ (if b then packed_time l.core l.test w else 0) → packed_time l.core l.test v ≤ packed_time l.core l.test w
     taken b e h = rw e at h
@@ -56,7 +56,7 @@ wider_costs falls soc limits lists weights p rank v w rate rate' some wide same 
     let uses : weighed lists weights (module_use soc limits p (slot rank v rate)) ≤ weighed lists weights (module_use soc limits p (slot rank w rate')) =
     weighed-le lists weights (module_use soc limits p (slot rank v rate)) (module_use soc limits p (slot rank w rate')) (λ n list there.
     sum_by-le_at (λ l. if l.test.tam && is_of p l then use_of soc limits (is_rank rank) list (packed_time l.core l.test v) l else 0) (λ l. if l.test.tam && is_of p l then use_of soc limits (is_rank rank) list (packed_time l.core l.test w) l else 0) (live_tests soc)
-    (λ i l at. if-le (l.test.tam && is_of p l) (use_of soc limits (is_rank rank) list (packed_time l.core l.test v) l) (use_of soc limits (is_rank rank) list (packed_time l.core l.test w) l)
+    (λ i l at. if_le (l.test.tam && is_of p l) (use_of soc limits (is_rank rank) list (packed_time l.core l.test v) l) (use_of soc limits (is_rank rank) list (packed_time l.core l.test w) l)
     (λ here. use_of-mono soc limits (is_rank rank) list (packed_time l.core l.test v) (packed_time l.core l.test w) l (each-le falls soc p v w some wide (omega arith) i l at here)))) in
     omega (arith, products, uses)
 
@@ -66,5 +66,5 @@ pub wider_uses : PackedTimesFall → (soc : SocValue) (limits : LimitsValue) (li
 wider_uses falls soc limits lists weights p rank v w some wide =
     weighed-le lists weights (module_use soc limits p (slot rank w 0)) (module_use soc limits p (slot rank v 0)) (λ n list there.
     sum_by-le_at (λ l. if l.test.tam && is_of p l then use_of soc limits (is_rank rank) list (packed_time l.core l.test w) l else 0) (λ l. if l.test.tam && is_of p l then use_of soc limits (is_rank rank) list (packed_time l.core l.test v) l else 0) (live_tests soc)
-    (λ i l at. if-le (l.test.tam && is_of p l) (use_of soc limits (is_rank rank) list (packed_time l.core l.test w) l) (use_of soc limits (is_rank rank) list (packed_time l.core l.test v) l)
+    (λ i l at. if_le (l.test.tam && is_of p l) (use_of soc limits (is_rank rank) list (packed_time l.core l.test w) l) (use_of soc limits (is_rank rank) list (packed_time l.core l.test v) l)
     (λ here. use_of-mono soc limits (is_rank rank) list (packed_time l.core l.test w) (packed_time l.core l.test v) l (falls l.core l.test v w (live_patterns soc i l at) some wide))))

@@ -55,10 +55,6 @@ line_from xs line e plain = rw e (line_of xs plain)
 
 -- ---- texts that are appended
 
--- what was appended before stands before
-pub behind : (t' t s x y : List ℕ) → t' ≡ t ++ y → t ≡ s ++ x → t' ≡ s ++ (x ++ y)
-behind t' t s x y last first = last ∙ ap (λ l. l ++ y) first ∙ append_assoc s x y
-
 -- one item more, of each of which a text is appended
 pub flat_more : {X : Type 0} (f : X → List ℕ) (xs : List X) (i : ℕ) (d : X) (start old new : List ℕ) → i < length xs → old ≡ start ++ flat_map f (take i xs) → new ≡ old ++ f (get_or xs i d) → new ≡ start ++ flat_map f (take (i + 1) xs)
 flat_more f xs i d start old new less so_far added =

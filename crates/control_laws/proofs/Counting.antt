@@ -5,6 +5,7 @@ use Rattle.std.proofs.lemmas.Bool.{cases_lt, false_from_ne_true}
 use Rattle.plan_model.specs.Operations.{Operation, Setup, Shift, Capture, SelfTest, ops_of}
 use Rattle.plan_model.proofs.OperationBlocks.{IsCaptured, capture_at, capture_found}
 use Rattle.controls.specs.Controls.{is_capture}
+use Rattle.common_lemmas.proofs.Tests.{none_at, one_at}
 
 -- how many numbers below one pass
 pub count_below : (ℕ → Bool) → ℕ → ℕ
@@ -18,12 +19,6 @@ count_below-zero p = refl
 pub count_below-suc : (p : ℕ → Bool) (n : ℕ) → count_below p (suc n) ≡ count_below p n + cond (p n) 1 0
 unfolding count_below
 count_below-suc p n = refl
-
-one_at : (b : Bool) → b ≡ true → cond {A = ℕ} b 1 0 ≡ 1
-one_at b yes' = rw yes' refl
-
-none_at : (b : Bool) → b ≡ false → cond {A = ℕ} b 1 0 ≡ 0
-none_at b no' = rw no' refl
 
 -- none passes in a stretch
 none_in : (p : ℕ → Bool) (a m : ℕ) → ((j : ℕ) → a ≤ j → j < a + m → p j ≡ false) → count_below p (a + m) ≡ count_below p a

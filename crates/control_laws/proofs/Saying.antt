@@ -17,7 +17,7 @@ use Rattle.plan_model.specs.Runs.{Content, bits_at, chain_at, each_chain, next_b
 use Rattle.plan_model.proofs.CertificatesAreBounds.{is_same_test, same_test_is}
 use Rattle.plan_model.proofs.ChainsInTheRun.{at_operation, idle_before}
 use Rattle.plan_model.proofs.GoodPlansRunRight.{planned_place}
-use Rattle.plan_model.proofs.Lists.{any_at, any_from, from_append, from_flat_map}
+use Rattle.plan_model.proofs.Lists.{any_from, from_append, from_flat_map}
 use Rattle.plan_model.proofs.LoadsAndReads.{IsTamTest, begun_at}
 use Rattle.plan_model.proofs.PlannedTests.{Origin, origin}
 use Rattle.plan_model.proofs.TestsInGoodPlans.{is_tam_test}
@@ -25,6 +25,7 @@ use Rattle.live_tests.proofs.LiveIds.{ids_differ}
 use Rattle.controls.specs.Controls.{capture_of, control_at, is_capture, is_shift, run_of, shift_of}
 use Rattle.control_laws.specs.Said.{IsOver, RunThePlan, captures_before, run_by_controls, said, said_at, step_by_controls}
 use Rattle.control_laws.proofs.Counting.{count_below, count_below-suc, count_below-zero, counted, counted_from}
+use Rattle.common_lemmas.proofs.Lists.{any_at}
 
 -- ---- a test at a cycle
 

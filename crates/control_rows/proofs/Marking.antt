@@ -15,6 +15,7 @@ use Rattle.control_rows.specs.declared.spells.Spell.{Spell}
 use Rattle.control_rows.specs.Columns.{AreOnes, ArePut, byte_at, does, is_run, is_told, operation_of, tells}
 use Rattle.control_rows.specs.Spells.{GoesOn, IsAction, shifts}
 use Rattle.control_rows.specs.Tests.{IsFit}
+use Rattle.common_lemmas.proofs.Numbers.{block_fits, same_block}
 
 -- ---- places in rows
 
@@ -24,22 +25,9 @@ same_row w zero (suc e) h same = absurd (omega arith)
 same_row w (suc d) zero h same = absurd (omega arith)
 same_row w (suc d) (suc e) h same = ap suc (same_row w d e h (omega arith))
 
--- a byte stands in one column of one row
-pub same_place : (w r x s y : ℕ) → x < w → y < w → r * w + x ≡ s * w + y → (r ≡ s) × (x ≡ y)
-same_place w r x s y h h' same =
-    let column : x ≡ y = sym (mod-mul-add r w x h) ∙ ap (λ v. v % w) same ∙ mod-mul-add s w y h' in
-    (same_row w r s (omega arith) (omega (arith, column, same)), column)
-
--- rows that have room
-pub rows-le : (a b w n : ℕ) → a ≤ b → b * w ≤ n → a * w ≤ n
-rows-le a b w n h room =
-    let split : b ≡ a + (b - a) = omega arith in
-    let wide : b * w ≡ (a + (b - a)) * w = ap (λ v. v * w) split in
-    omega arith
-
 pub place-lt : (r count w x n : ℕ) → r < count → x < w → count * w ≤ n → r * w + x < n
 place-lt r count w x n h within room =
-    let next : (r + 1) * w ≤ n = rows-le (r + 1) count w n (omega arith) room in
+    let next : (r + 1) * w ≤ n = block_fits (r + 1) count w n (omega arith) room in
     omega arith
 
 -- ---- ones in one column
@@ -71,7 +59,7 @@ ones_more columns row column k old now within there are = record {
     go : (r x : ℕ) → x < columns → (r * columns + x ≡ (row + k) * columns + column) ⊎ (r * columns + x ≡ (row + k) * columns + column → ⊥) →
         byte_at (set now ((row + k) * columns + column) 49) columns r x ≡ cond (eqb x column && (leb row r && ltb r (row + (k + 1)))) 49 (byte_at old columns r x)
     go r x h (inl same) =
-        let p = same_place columns r x (row + k) column h within same in
+        let p = same_block columns r x (row + k) column h within same in
         ap (λ i. get_or (set now ((row + k) * columns + column) 49) i 0) same ∙ get_or-set_same now ((row + k) * columns + column) 49 0 there
         ∙ sym (cond-true (eqb x column && (leb row r && ltb r (row + (k + 1)))) 49 (byte_at old columns r x) (row_here x column row r k p.1 p.0))
     go r x h (inr other) =

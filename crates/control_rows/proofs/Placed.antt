@@ -19,6 +19,8 @@ use Rattle.live_tests.specs.Wrapped.{IsModeWrapper}
 use Rattle.live_tests.specs.declared.wrapped.ModeWrapper.{ModeWrapper}
 use Rattle.control_rows.specs.declared.placing.ControlledTest.{ControlledTest}
 use Rattle.control_rows.specs.Tests.{controlled, controlled_in, controlled_live, phases_of, tam_before}
+use Rattle.common_lemmas.proofs.Lists.{map_twice}
+use Rattle.common_lemmas.proofs.Tests.{none_at, one_at}
 
 -- ---- phases
 
@@ -40,12 +42,6 @@ tam_more soc place m at =
     ∙ ap length (filter-append has_tam (take place soc.modules) (m ∷ []))
     ∙ length-append (filter has_tam (take place soc.modules)) (filter has_tam (m ∷ []))
     ∙ ap (λ n. tam_before soc place + n) (counted (has_tam m) m)
-
-one_at : (b : Bool) → b ≡ true → cond {A = ℕ} b 1 0 ≡ 1
-one_at b yes' = rw yes' refl
-
-none_at : (b : Bool) → b ≡ false → cond {A = ℕ} b 1 0 ≡ 0
-none_at b no' = rw no' refl
 
 pub tam_there : (soc : SocValue) (place before : ℕ) (m : ModuleValue) (b : Bool) → b ≡ has_tam m → b ≡ true → slice_get soc.modules place ≡ Some m → before ≡ tam_before soc place → before + 1 ≡ tam_before soc (place + 1)
 tam_there soc place before m b is yes' at was =
@@ -87,10 +83,6 @@ test_is plan place before m t p f placed is = ap (λ (p : PlacedTest). the_test 
     the_test start end f = record { tam = t.tam; start = start; end = end; phases = f; before = before }
 
 -- ---- module by module
-
-map_twice : {X Y Z : Type 0} (f : Y → Z) (g : X → Y) (xs : List X) → map f (map g xs) ≡ map (λ x. f (g x)) xs
-map_twice f g [] = refl
-map_twice f g (x ∷ xs) = ap (λ ys. f (g x) ∷ ys) (map_twice f g xs)
 
 drop_at : (ms : List ModuleValue) (k : ℕ) (m : ModuleValue) → slice_get ms k ≡ Some m → drop k ms ≡ m ∷ drop (k + 1) ms
 drop_at ms k m at = drop_more ms k m (slice_get_within ms k m at) ∙ ap (λ (x : ModuleValue). x ∷ drop (k + 1) ms) (get_or_from_slice_get ms k m m at)

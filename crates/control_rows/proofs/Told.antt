@@ -17,7 +17,7 @@ use Rattle.plan_model.specs.Rules.{IsGoodAlone, bare_limits, live_ids}
 use Rattle.plan_model.specs.Runs.{operation_at}
 use Rattle.plan_model.specs.declared.moments.Phases.{Phases}
 use Rattle.plan_model.proofs.CertificatesAreBounds.{is_same_test, same_test_is}
-use Rattle.plan_model.proofs.Lists.{any_from, from_append, from_filter, from_map}
+use Rattle.plan_model.proofs.Lists.{any_from, from_append, from_filter}
 use Rattle.plan_model.proofs.OperationCounts.{ops_length}
 use Rattle.plan_model.proofs.PlannedTests.{IsLive, live_at}
 use Rattle.plan_model.proofs.ShortTests.{short_planned}
@@ -30,8 +30,10 @@ use Rattle.control_rows.specs.declared.placing.ControlledTest.{ControlledTest}
 use Rattle.control_rows.specs.declared.rows.ControlRows.{ControlRows}
 use Rattle.control_rows.specs.Columns.{ArePut, byte_at, is_told, operation_of, own_columns, tells, told_from}
 use Rattle.control_rows.specs.Tests.{AreControlRows, IsFit, controlled_live, phases_of, tam_before}
-use Rattle.control_rows.proofs.Marking.{place-lt, rows-le}
+use Rattle.control_rows.proofs.Marking.{place-lt}
 use Rattle.control_rows.proofs.Placed.{tam_before-le}
+use Rattle.common_lemmas.proofs.Numbers.{block_fits}
+use Rattle.common_lemmas.proofs.Lists.{from_map}
 
 -- ---- lists
 
@@ -368,7 +370,7 @@ row_is soc plan rows from count place r text are past room h told =
     many = ap length are.tests ∙ length-map (live_tests soc) (controlled_live soc plan)
 
     here : r * columns + columns ≤ length text
-    here = omega (arith, rows-le (r + 1) count columns (length text) (omega arith) room)
+    here = omega (arith, block_fits (r + 1) count columns (length text) (omega arith) room)
 
     long : length (slice_range text (r * columns) (r * columns + columns)) ≡ columns
     long = omega (arith, length-take (r * columns + columns - r * columns) (drop (r * columns) text), length-drop (r * columns) text, here)

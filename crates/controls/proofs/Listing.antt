@@ -8,10 +8,7 @@ use Rattle.plan_model.specs.Plans.{PlanValue, planned}
 use Rattle.plan_model.specs.Rules.{live_ids}
 use Rattle.controls.specs.declared.Control.{Control}
 use Rattle.controls.specs.Controls.{run_of, runs_in, controls, control_row, control_at, bit_digit}
-
-map_twice : {X Y Z : Type 0} (f : Y → Z) (g : X → Y) (xs : List X) → map f (map g xs) ≡ map (λ x. f (g x)) xs
-map_twice f g [] = refl
-map_twice f g (x ∷ xs) = ap (λ ys. f (g x) ∷ ys) (map_twice f g xs)
+use Rattle.common_lemmas.proofs.Lists.{map_twice}
 
 runs_from : (base : ℕ) (ms : List ModuleValue) → flat_map runs_in ms ≡ map run_of (map id_of (live_from base ms))
 unfolding live_from

@@ -12,12 +12,13 @@ use Rattle.plan_model.specs.Rules.{IsGood, Busy, Parents, Precedences, Power, li
 use Rattle.plan_model.specs.SoundLimits.{IsSoundLimits, IsSoundProfile}
 use Rattle.std.proofs.lemmas.List.Elements.{All-contains}
 use Rattle.plan_model.proofs.GoodPlansRunRight.{planned_in_order}
-use Rattle.plan_model.proofs.Lists.{contains_at, at_contains, from_map}
+use Rattle.plan_model.proofs.Lists.{at_contains}
 use Rattle.plan_model.proofs.PlannedTests.{Origin, origin}
 use Rattle.plan_model.proofs.Sums.{sum_by-filter, two-le-sum_by}
 use Rattle.live_tests.proofs.Precedences.{StandsFor, stands_for}
 use Rattle.exclusions.specs.Exclusions.{Leads, OnePair, PairFirst, least_power, Reason, OneModule, IsParentOf, IsChildOf, ComesBefore, ComesAfter, TooMuchPower, Excludes}
 use Rattle.live_tests.specs.Names.{precedences}
+use Rattle.common_lemmas.proofs.Lists.{contains_at, from_map}
 
 -- ---- a planned test and its live test
 

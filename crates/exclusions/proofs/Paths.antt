@@ -4,8 +4,9 @@ use Rattle.std.specs.Prelude.{nat_eq, ◌&&◌}
 use Rattle.std.specs.List.{All, Contains}
 use Rattle.std.proofs.lemmas.Bool.{cases_lt, and_parts, and_from, or_cases, or_left, or_right, eqb-true, eq-eqb}
 use Rattle.std.proofs.lemmas.List.Elements.{All-contains}
-use Rattle.plan_model.proofs.Lists.{contains_at, at_contains, any_from, any_at}
+use Rattle.plan_model.proofs.Lists.{at_contains, any_from}
 use Rattle.exclusions.specs.Exclusions.{Leads, OnePair, PairFirst, has_pair, leads}
+use Rattle.common_lemmas.proofs.Lists.{contains_at, any_at}
 
 pub pair_found : (pairs : List (ℕ × ℕ)) (i j : ℕ) → Contains pairs (i, j) → has_pair pairs i j ≡ true
 pair_found pairs i j c =

@@ -17,6 +17,7 @@ use Rattle.exclusions.specs.Marks.{is_marked, next_of, AreAfter, AreBefore}
 use Rattle.exclusions.specs.Rows.{facts_of, all_facts, mark_of, are_kin}
 use Rattle.exclusions.proofs.Paths.{path_from, path_found}
 use Rattle.exclusions.proofs.Decided.{below_count}
+use Rattle.common_lemmas.proofs.Lists.{some_item}
 
 -- ---- mark by mark
 
@@ -108,11 +109,6 @@ reasons_are soc limits i j a b behind ahead led back =
     rw (led_is soc limits i j behind led, led_is soc limits j i ahead back)
     (ap (λ r. not (nat_eq i j) && r) (in_order (leads (precedences soc limits) (length (live_tests soc)) i j) (leads (precedences soc limits) (length (live_tests soc)) j i) (are_kin (facts_of soc limits a) (facts_of soc limits b)) (is_passed limits.power ((facts_of soc limits a).least + (facts_of soc limits b).least))))
 
-item_there : {X : Type 0} (xs : List X) (i : ℕ) → i < length xs → (x : X) × (slice_get xs i ≡ Some x)
-item_there [] i less = absurd (omega arith)
-item_there (x ∷ xs) zero less = (x, refl)
-item_there (x ∷ xs) (suc i) less = item_there xs i (omega arith)
-
 fact_there : (soc : SocValue) (limits : LimitsValue) (facts : List TestFacts) → facts ≡ all_facts soc limits → (i : ℕ) (l : LiveTest) → slice_get (live_tests soc) i ≡ Some l → slice_get facts i ≡ Some (facts_of soc limits l)
 fact_there soc limits facts are i l at = ap (λ fs. slice_get fs i) are ∙ slice_get-map (facts_of soc limits) (live_tests soc) i ∙ ap (option_map (facts_of soc limits)) at
 
@@ -136,8 +132,8 @@ pub row_is : (soc : SocValue) (limits : LimitsValue) (facts : List TestFacts) (p
     (j : ℕ) → is_marked marks j ≡ excludes soc limits test j
 row_is soc limits facts power test behind ahead marks are same within long led back marked j = elim (cases_lt j (length (live_tests soc))) [
   | inl less ↦
-      let a = item_there (live_tests soc) test within in
-      let b = item_there (live_tests soc) j less in
+      let a = some_item (live_tests soc) test within in
+      let b = some_item (live_tests soc) j less in
       marked j (facts_of soc limits a.0) (facts_of soc limits b.0) (omega (arith, less, facts_long soc limits facts are)) (fact_there soc limits facts are test a.0 a.1) (fact_there soc limits facts are j b.0 b.1)
       ∙ ap (λ p. mark_of p (facts_of soc limits a.0) (facts_of soc limits b.0) test j (is_marked behind j) (is_marked ahead j)) same
       ∙ reasons_are soc limits test j a.0 b.0 (is_marked behind j) (is_marked ahead j) (led j) (back j)

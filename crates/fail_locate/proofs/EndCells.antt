@@ -18,13 +18,9 @@ use Rattle.plan_model.proofs.ProperByCounts.{IsCounted, proper_is_counted}
 use Rattle.fail_locate.specs.declared.Cell.{Cell as FoundCell}
 use Rattle.fail_locate.specs.Spots.{cell_value}
 use Rattle.fail_locate.specs.Chains.{IsFromEnd, cells_at}
+use Rattle.common_lemmas.proofs.Lists.{in_front}
 
 -- ---- places in joined and turned lists
-
-in_front : {X : Type 0} (xs ys : List X) (n : ℕ) → n < length xs → slice_get (xs ++ ys) n ≡ slice_get xs n
-in_front [] ys n h = absurd (omega arith)
-in_front (x ∷ xs) ys zero h = refl
-in_front (x ∷ xs) ys (suc n) h = in_front xs ys n (omega arith)
 
 behind_front : {X : Type 0} (xs ys : List X) (n k : ℕ) → n ≡ length xs + k → slice_get (xs ++ ys) n ≡ slice_get ys k
 behind_front [] ys n k e = let same : n ≡ k = omega arith in rw same refl

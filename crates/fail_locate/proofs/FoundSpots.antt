@@ -26,7 +26,6 @@ use Rattle.plan_model.specs.Views.{chain_value, wrapper_value}
 use Rattle.plan_model.proofs.ChainsInTheRun.{AreApart, uses_wire}
 use Rattle.plan_model.proofs.GoodPlansRunRight.{every_good_plan_is_right}
 use Rattle.plan_model.proofs.LoadsAndReads.{at_start_plus, begun_at, chain_is}
-use Rattle.plan_model.proofs.Lists.{from_map}
 use Rattle.plan_model.proofs.OperationCounts.{ops_length}
 use Rattle.plan_model.proofs.TestsInGoodPlans.{OnBus, on_bus, apart}
 use Rattle.live_tests.specs.Wires.{AreFirstWires}
@@ -39,6 +38,7 @@ use Rattle.fail_locate.specs.Laws.{SpotsAreOne}
 use Rattle.fail_locate.specs.Locating.{IsBehind, IsLast, IsLocator, IsOnWire, IsTurn}
 use Rattle.fail_locate.specs.Spots.{IsNoSpot, IsSpot, cell_value}
 use Rattle.fail_locate.specs.Wired.{IsKept, IsPlanned, IsWired}
+use Rattle.common_lemmas.proofs.Lists.{from_map}
 
 -- ---- first wires
 

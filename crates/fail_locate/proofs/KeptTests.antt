@@ -11,13 +11,14 @@ use Rattle.soc_model.specs.declared.Test.{Test}
 use Rattle.soc_model.specs.Chips.{ModuleValue, SocValue, LiveTest, is_live, live_of, live_from}
 use Rattle.soc_model.specs.Modes.{is_tam}
 use Rattle.plan_model.specs.Plans.{PlanValue, PlannedTest, planned, planned_test}
-use Rattle.plan_model.proofs.Lists.{from_append, in_append_left, in_append_right, contains_at, at_contains}
+use Rattle.plan_model.proofs.Lists.{from_append, in_append_right, at_contains}
 use Rattle.plan_model.proofs.TestsInGoodPlans.{planned_tam}
 use Rattle.fail_locate.specs.declared.wired.WiredTest.{WiredTest}
 use Rattle.fail_locate.specs.Wired.{IsWired, IsPlanned, IsKept, AreWired, placed_tests}
+use Rattle.common_lemmas.proofs.Lists.{map_append, only_one, at_left, contains_at}
 
 planned_more : (soc : SocValue) (plan : PlanValue) (done : List PlannedTest) (u : PlannedTest) (t : WiredTest) → IsPlanned soc plan done t → IsPlanned soc plan (done ++ u ∷ []) t
-planned_more soc plan done u t is = record { place = is.place; test = is.test; at = in_append_left done (u ∷ []) is.place is.test is.at; wired = is.wired }
+planned_more soc plan done u t is = record { place = is.place; test = is.test; at = at_left done (u ∷ []) is.place is.test is.at; wired = is.wired }
 
 planned_last : (soc : SocValue) (plan : PlanValue) (done : List PlannedTest) (u : PlannedTest) (t : WiredTest) → IsWired soc plan u t → IsPlanned soc plan (done ++ u ∷ []) t
 planned_last soc plan done u t is =
@@ -25,27 +26,23 @@ planned_last soc plan done u t is =
     record { place = r.0; test = u; at = r.1; wired = is }
 
 kept_more : (tests : List WiredTest) (t : WiredTest) (u : PlannedTest) → IsKept tests u → IsKept (tests ++ t ∷ []) u
-kept_more tests t u is = record { place = is.place; test = is.test; at = in_append_left tests (t ∷ []) is.place is.test is.at; bus = is.bus; start = is.start }
+kept_more tests t u is = record { place = is.place; test = is.test; at = at_left tests (t ∷ []) is.place is.test is.at; bus = is.bus; start = is.start }
 
 kept_last : (soc : SocValue) (plan : PlanValue) (tests : List WiredTest) (t : WiredTest) (u : PlannedTest) → IsWired soc plan u t → IsKept (tests ++ t ∷ []) u
 kept_last soc plan tests t u is =
     let r = in_append_right tests (t ∷ []) 0 t refl in
     record { place = r.0; test = t; at = r.1; bus = is.bus; start = is.start }
 
-one_item : {X : Type 0} (x y : X) (j : ℕ) → slice_get (x ∷ []) j ≡ Some y → x ≡ y
-one_item x y zero e = same_Some _ _ e
-one_item x y (suc j) e = absurd cc
-
 -- a test over the wires
 wired_more : (soc : SocValue) (plan : PlanValue) (done : List PlannedTest) (tests new : List WiredTest) (u : PlannedTest) (t : WiredTest) → AreWired soc plan done tests → new ≡ tests ++ t ∷ [] → IsWired soc plan u t → AreWired soc plan (done ++ u ∷ []) new
 wired_more soc plan done tests new u t are pushed is = subst (AreWired soc plan (done ++ u ∷ [])) (sym pushed) (record {
   planned = λ n v at. elim (from_append tests (t ∷ []) n v at) [
     | inl old ↦ planned_more soc plan done u v (are.planned n v old)
-    | inr last ↦ subst (IsPlanned soc plan (done ++ u ∷ [])) (one_item t v last.0 last.2) (planned_last soc plan done u t is)
+    | inr last ↦ subst (IsPlanned soc plan (done ++ u ∷ [])) (only_one t v last.0 last.2) (planned_last soc plan done u t is)
   ];
   kept = λ i v at tam. elim (from_append done (u ∷ []) i v at) [
     | inl old ↦ kept_more tests t v (are.kept i v old tam)
-    | inr last ↦ subst (IsKept (tests ++ t ∷ [])) (one_item u v last.0 last.2) (kept_last soc plan tests t u is)
+    | inr last ↦ subst (IsKept (tests ++ t ∷ [])) (only_one u v last.0 last.2) (kept_last soc plan tests t u is)
   ];
 })
 
@@ -55,7 +52,7 @@ self_more soc plan done tests u are self = record {
   planned = λ n v at. planned_more soc plan done u v (are.planned n v at);
   kept = λ i v at tam. elim (from_append done (u ∷ []) i v at) [
     | inl old ↦ are.kept i v old tam
-    | inr last ↦ absurd (false≢true (sym self ∙ ap (λ (p : PlannedTest). p.tam) (one_item u v last.0 last.2) ∙ tam))
+    | inr last ↦ absurd (false≢true (sym self ∙ ap (λ (p : PlannedTest). p.tam) (only_one u v last.0 last.2) ∙ tam))
   ];
 }
 
@@ -80,10 +77,6 @@ filter_append (x ∷ xs) ys = go (filter_append xs ys) (cases_Bool (is_live x)) 
   go : filter is_live (xs ++ ys) ≡ filter is_live xs ++ filter is_live ys → (is_live x ≡ true) ⊎ (is_live x ≡ false) → filter is_live (x ∷ (xs ++ ys)) ≡ filter is_live (x ∷ xs) ++ filter is_live ys
   go rest (inl yes') = rw yes' (ap (λ v. x ∷ v) rest)
   go rest (inr no') = rw no' rest
-
-map_append : {X Y : Type 0} (f : X → Y) (xs ys : List X) → map f (xs ++ ys) ≡ map f xs ++ map f ys
-map_append f [] ys = refl
-map_append f (x ∷ xs) ys = ap (λ v. f x ∷ v) (map_append f xs ys)
 
 pub tests_more : (plan : PlanValue) (place : ℕ) (m : ModuleValue) (ts : List Test) (k : ℕ) (t : Test) → slice_get ts k ≡ Some t → placed_tests plan place m (take (k + 1) ts) ≡ placed_tests plan place m (take k ts) ++ placed_tests plan place m (t ∷ [])
 tests_more plan place m ts k t at =
@@ -156,6 +149,3 @@ in_order soc plan done tests sorted moved are = record {
 }
 
 -- ---- what is looked up
-
-pub slice_at : {X : Type 0} (xs : List X) (i : ℕ) (x : X) → i < length xs → x ≡ get_or xs i x → slice_get xs i ≡ Some x
-slice_at xs i x h e = slice_get-get_or xs i x h ∙ ap Some (sym e)

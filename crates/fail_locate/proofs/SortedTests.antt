@@ -14,6 +14,7 @@ use Rattle.std.proofs.lemmas.Option.{slice_get_within, slice_get-get_or, get_or_
 use Rattle.fail_locate.specs.declared.wired.WiredTest.{WiredTest}
 use Rattle.fail_locate.specs.Locating.{comes_by}
 use Rattle.fail_locate.specs.Wired.{AreInOrder, NoLater}
+use Rattle.common_lemmas.proofs.Numbers.{three_ways}
 
 -- ---- sorted by bus and start
 
@@ -25,9 +26,6 @@ key_cmp x y = ordering_then (nat_cmp x.0 y.0) (nat_cmp x.1 y.1)
 
 key_cmp-total : IsTotalOrder key_cmp
 key_cmp-total = then_total (on_total (λ (k : ℕ × ℕ). k.0) nat_cmp_total) (on_total (λ (k : ℕ × ℕ). k.1) nat_cmp_total)
-
-three_ways : (s t : ℕ) → (s < t) ⊎ ((s ≡ t) ⊎ (t < s))
-three_ways s t = grind arith
 
 -- a key that isn't less
 not_less : (a b p q : ℕ) → is_lt (ordering_then (nat_cmp a b) (nat_cmp p q)) ≡ false → (b < a) ⊎ ((b ≡ a) × (q ≤ p))

@@ -5,7 +5,7 @@ use Rattle.outside.proofs.Runs.{run-none, run-append}
 use Rattle.keyword_text.specs.declared.tokens.Token.{Token}
 use Rattle.keyword_text.specs.declared.tokens.Token.TheVariants.{Key, Number}
 use Rattle.keyword_text.specs.Machines.{Machine, IsRun}
-use Rattle.keyword_text.proofs.Spelling.{none_some}
+use Rattle.common_lemmas.proofs.Options.{never_both}
 
 -- a relation of the words that were read and the state after them, which each step keeps
 abbrev pub IsKept : {K S V : Type 0} → Machine K S V → (List (Token K) → S → Type 0) → Type 0
@@ -30,7 +30,7 @@ from_here {K} {S} m Holds kept before [] s e holds runs =
 from_here {K} {S} m Holds kept before (t ∷ ts) s e holds runs = by (m.step s t) refl (λ next into rest. from_here m Holds kept (before ++ t ∷ []) ts next e (kept before s next t holds into) rest)
   where
     by : (o : Option S) → m.step s t ≡ o → ((next : S) → m.step s t ≡ Some next → run_by m.step (Some next) ts ≡ Some e → Holds ((before ++ t ∷ []) ++ ts) e) → Holds (before ++ t ∷ ts) e
-    by None none go = absurd (none_some (run_by m.step (m.step s t) ts) e (ap (λ (o : Option S). run_by m.step o ts) none ∙ run-none m.step ts) runs)
+    by None none go = absurd (never_both (run_by m.step (m.step s t) ts) e (ap (λ (o : Option S). run_by m.step o ts) none ∙ run-none m.step ts) runs)
     by (Some next) into go = subst (λ l. Holds l e) (append_assoc before (t ∷ []) ts) (go next into (sym (ap (λ (o : Option S). run_by m.step o ts) into) ∙ runs))
 
 -- it holds of all that is read

@@ -5,6 +5,7 @@ use Rattle.outside.specs.Words.{Word}
 use Rattle.keyword_text.specs.declared.tokens.Token.{Token}
 use Rattle.keyword_text.specs.Tokens.{Lexicon, token_of}
 use Rattle.keyword_text.specs.Texts.{meanings, Spells}
+use Rattle.common_lemmas.proofs.Lists.{same_somes}
 
 pub one_more : {K : Type 0} (l : Lexicon K) (front : List Word) (ts : List (Token K)) (w : Word) (t : Token K) → Spells l front ts → token_of l w.0 ≡ Some t → Spells l (front ++ w ∷ []) (ts ++ t ∷ [])
 one_more l front ts w t spells is =
@@ -13,16 +14,6 @@ one_more l front ts w t spells is =
 pub both_spell : {K : Type 0} (l : Lexicon K) (a b : List Word) (x y : List (Token K)) → Spells l a x → Spells l b y → Spells l (a ++ b) (x ++ y)
 both_spell l a b x y ax by =
     map-append (λ (w : Word). token_of l w.0) a b ∙ ap (λ z. z ++ meanings l b) ax ∙ ap (λ z. map Some x ++ z) by ∙ sym (map-append Some x y)
-
-pub same_somes : {T : Type 0} (x y : List T) → map Some x ≡ map Some y → x ≡ y
-same_somes [] [] e = refl
-same_somes [] (t ∷ y) e = absurd cc
-same_somes (t ∷ x) [] e = absurd cc
-same_somes {T} (t ∷ x) (u ∷ y) e =
-    let first : t ≡ u = cc in
-    let rest : map Some x ≡ map Some y = cc in
-    let more : x ≡ y = same_somes x y rest in
-    cc
 
 -- words are spelled in one way
 pub spelled_once : {K : Type 0} (l : Lexicon K) (ws : List Word) (x y : List (Token K)) → Spells l ws x → Spells l ws y → x ≡ y
@@ -45,9 +36,6 @@ follows {T} (t ∷ ts) (x ∷ xs) o os e =
     let f = follows ts xs o os tails in
     let words : x ∷ xs ≡ t ∷ (ts ++ f.next ∷ f.rest) = let tail = f.words in cc in
     record { next = f.next; rest = f.rest; words = words; is = f.is }
-
-pub none_some : {T : Type 0} (o : Option T) (x : T) → o ≡ None → o ≡ Some x → ⊥
-none_some o x e f = cc
 
 pub same_some : {T : Type 0} (o : Option T) (x y : T) → o ≡ Some x → o ≡ Some y → x ≡ y
 same_some o x y e f = cc

@@ -10,8 +10,9 @@ use Rattle.keyword_text.specs.Tokens.{Lexicon, token_of}
 use Rattle.keyword_text.specs.Texts.{Grammar, meanings, Spells, IsText, InGrammar}
 use Rattle.keyword_text.specs.Machines.{Machine, ReadsGrammar}
 use Rattle.keyword_text.specs.Reads.{IsAfter}
-use Rattle.keyword_text.proofs.Spelling.{one_more, both_spell, spelled_once, follows, none_some, same_some}
+use Rattle.keyword_text.proofs.Spelling.{one_more, both_spell, spelled_once, follows, same_some}
 use Rattle.keyword_text.proofs.Ranges.{words_for, spelled_small}
+use Rattle.common_lemmas.proofs.Options.{never_both}
 
 -- words that are read to where a text may end say its value
 pub read_whole : {K S V : Type 0} (g : Grammar K V) (m : Machine K S V) → ReadsGrammar g m → (ws : List Word) (s : S) (value : V) → IsAfter g.lexicon m s ws → m.end s ≡ Some value → IsText g ws value
@@ -48,7 +49,7 @@ pub record RefusesWord {K S V : Type 0} (l : Lexicon K) (m : Machine K S V) (s :
 
 -- the word stands for nothing
 pub unknown_word : {K S V : Type 0} (l : Lexicon K) (m : Machine K S V) (s : S) (w : Word) → token_of l w.0 ≡ None → RefusesWord l m s w
-unknown_word l m s w none = record { refused = λ t e. absurd (none_some (token_of l w.0) t none e) }
+unknown_word l m s w none = record { refused = λ t e. absurd (never_both (token_of l w.0) t none e) }
 
 -- nothing goes on with what it stands for
 pub stuck_word : {K S V : Type 0} (l : Lexicon K) (m : Machine K S V) (s : S) (w : Word) (t : Token K) → token_of l w.0 ≡ Some t → m.step s t ≡ None → RefusesWord l m s w
@@ -66,7 +67,7 @@ not_viable {K} {S} g m reads front s w at refuses v =
     let ran : run_by m.step (Some m.start) (ts ++ f.next ∷ f.rest) ≡ None =
     run-append m.step (Some m.start) ts (f.next ∷ f.rest) ∙ ap (λ (o : Option S). run_by m.step o (f.next ∷ f.rest)) at.read
     ∙ ap (λ (o : Option S). run_by m.step o f.rest) (refuses.refused f.next f.is) ∙ run-none m.step f.rest in
-    none_some (run_by m.step (Some m.start) (g.tokens value)) r.end (ap (run_by m.step (Some m.start)) f.words ∙ ran) r.runs
+    never_both (run_by m.step (Some m.start) (g.tokens value)) r.end (ap (run_by m.step (Some m.start)) f.words ∙ ran) r.runs
 
 -- the word at which the reader stops
 pub stops_here : {K S V : Type 0} (g : Grammar K V) (m : Machine K S V) → ReadsGrammar g m → (front : List Word) (s : S) (w : Word) → IsAfter g.lexicon m s front → RefusesWord g.lexicon m s w → Stops (InGrammar g) front w
@@ -81,7 +82,7 @@ ends_here {K} {S} {V} g m reads ws s at none = record { viable = read_viable g m
         let r = reads.complete is.0 is.1.allowed in
         let same : at.tokens ≡ g.tokens is.0 = spelled_once g.lexicon ws at.tokens (g.tokens is.0) at.spelled is.1.words in
         let end : s ≡ r.end = same_some (run_by m.step (Some m.start) (g.tokens is.0)) s r.end (ap (run_by m.step (Some m.start)) (sym same) ∙ at.read) r.runs in
-        none_some (m.end s) is.0 none (ap m.end end ∙ r.ends)
+        never_both (m.end s) is.0 none (ap m.end end ∙ r.ends)
 
 -- words say at most one value
 pub one_value : {K S V : Type 0} (g : Grammar K V) (m : Machine K S V) → ReadsGrammar g m → (ws : List Word) (a b : V) → IsText g ws a → IsText g ws b → a ≡ b

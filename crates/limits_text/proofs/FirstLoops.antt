@@ -9,7 +9,9 @@ use Rattle.plan_model.proofs.Finding.{none_passes}
 use Rattle.limits_text.specs.Loops.{IsTaken, take_away, Remains, IsFirstRemaining, IsForerunner, IsWalk, IsFirstLoop, HasRank}
 use Rattle.limits_text.specs.Orders.{is_in, least_before, Counts, IsTaking, AreMarked, ComesAgain, IsBack}
 use Rattle.limits_text.proofs.Positions.{fails_before, passes_at}
-use Rattle.limits_text.proofs.Taking.{in_at, in_take_at, contains_from, contains_here}
+use Rattle.limits_text.proofs.Taking.{in_at, in_take_at}
+use Rattle.common_lemmas.proofs.Tests.{not_true, not_false}
+use Rattle.common_lemmas.proofs.Lists.{contains_at, contains_from}
 
 abbrev pub AreWithin : List (ℕ × ℕ) → ℕ → Type 0
 AreWithin pairs count = All (λ (e : ℕ × ℕ). (e.0 < count) × (e.1 < count)) pairs
@@ -66,14 +68,6 @@ at_rank (y ∷ xs) x e = by (nat_eq x y) refl (at_rank xs x)
 pub record Marked (count : ℕ) (order : List ℕ) (gone : List Bool) : Type 0 where
   pub long : length gone ≡ count
   pub marks : AreMarked gone order
-
-not_false : (b : Bool) → not b ≡ false → b ≡ true
-not_false true e = refl
-not_false false e = cc
-
-not_true : (b : Bool) → not b ≡ true → b ≡ false
-not_true true e = cc
-not_true false e = refl
 
 marked_in : (count : ℕ) (order : List ℕ) (gone : List Bool) (j : ℕ) (b : Bool) → Marked count order gone → j < count → get_or gone j false ≡ b → is_in order j ≡ b
 marked_in count order gone j b m small e = sym (m.marks j (omega (arith, small, m.long))) ∙ e
@@ -166,7 +160,7 @@ module _ (pairs : List (ℕ × ℕ)) (count : ℕ) (order : List ℕ) (gone : Li
       let k = t.stuck j left.0 (marked_in count order gone j false m left.0 left.1) in
       let small = (All-contains (λ (e : ℕ × ℕ). (e.0 < count) × (e.1 < count)) pairs (k.0, j) all k.1).0 in
       let open_k : get_or gone k.0 false ≡ false = m.marks k.0 (omega (arith, small, m.long)) ∙ k.2 in
-      let c = contains_from pairs (k.0, j) k.1 in
+      let c = contains_at pairs (k.0, j) k.1 in
       let below = least_le (length gone - 1) pairs c.0 k.0 j c.1 open_k in
       by (least_is (length gone - 1) pairs j) k.0 small k.1 open_k below
     where
@@ -176,7 +170,7 @@ module _ (pairs : List (ℕ × ℕ)) (count : ℕ) (order : List ℕ) (gone : Li
       earlier : (k : ℕ) → k < least → Contains pairs (k, j) → IsTaken pairs k
       earlier k less c =
           let small = (All-contains (λ (e : ℕ × ℕ). (e.0 < count) × (e.1 < count)) pairs (k, j) all c).0 in
-          taken pairs count order t k (marked_in count order gone k true m small (gone_k (get_or gone k false) refl (contains_from pairs (k, j) c)))
+          taken pairs count order t k (marked_in count order gone k true m small (gone_k (get_or gone k false) refl (contains_at pairs (k, j) c)))
         where
           gone_k : (b : Bool) → get_or gone k false ≡ b → (p : ℕ) × (slice_get pairs p ≡ Some (k, j)) → get_or gone k false ≡ true
           gone_k true e c = e
@@ -188,7 +182,7 @@ module _ (pairs : List (ℕ × ℕ)) (count : ℕ) (order : List ℕ) (gone : Li
       by : (least ≡ length gone - 1) ⊎ ((p : ℕ) × (slice_get pairs p ≡ Some (least, j)) × (get_or gone least false ≡ false)) → (i : ℕ) → i < count → Contains pairs (i, j) → get_or gone i false ≡ false → least ≤ i → IsForerunner pairs j least × IsLeft count gone least
       by (inl e) i small c open_i below = found i (omega (arith, e, below, small, m.long)) c (small, open_i)
       by (inr f) i small c open_i below =
-          let has = contains_here pairs (least, j) f.0 f.1 in
+          let has = contains_from pairs (least, j) f.0 f.1 in
           found least refl has ((All-contains (λ (e : ℕ × ℕ). (e.0 < count) × (e.1 < count)) pairs (least, j) all has).0, f.2)
 
   -- a walk over the least tests is over forerunners

@@ -11,9 +11,7 @@ use Rattle.soc_model.specs.Chips.{ModuleValue, SocValue, LiveTest, is_live, live
 use Rattle.plan_model.specs.Plans.{ProfileValue, LimitsValue}
 use Rattle.limits_text.specs.Meaning.{or_first, powers_of, NonePasses, IsFirstPassing}
 use Rattle.limits_text.specs.Passing.{live_at, passing, first_passing}
-
-none_some : {X : Type 0} (o : Option X) (x : X) → o ≡ None → o ≡ Some x → ⊥
-none_some o x e f = cc
+use Rattle.common_lemmas.proofs.Options.{never_both}
 
 -- ---- at most one
 
@@ -21,7 +19,7 @@ none_some o x e f = cc
 pub none_or_first : (soc : SocValue) (limits : LimitsValue) (test : TestId) (power : ℕ) → NonePasses soc limits → IsFirstPassing soc limits test power → ⊥
 none_or_first soc limits test power none first =
     let all = subst (λ (o : Option ℕ). IfSome o (λ most. (n : ℕ) (l : LiveTest) → slice_get (live_tests soc) n ≡ Some l → find (nat_lt most) (powers_of limits.profiles l) ≡ None)) first.limit none in
-    none_some (find (nat_lt first.most) (powers_of limits.profiles first.live)) power (all first.place first.live first.there) first.passes
+    never_both (find (nat_lt first.most) (powers_of limits.profiles first.live)) power (all first.place first.live first.there) first.passes
 
 pub one_passing : (soc : SocValue) (limits : LimitsValue) (s t : TestId) (m n : ℕ) → IsFirstPassing soc limits s m → IsFirstPassing soc limits t n → (s ≡ t) × (m ≡ n)
 one_passing soc limits s t m n x y = by (cases_order x.place y.place)
@@ -30,7 +28,7 @@ one_passing soc limits s t m n x y = by (cases_order x.place y.place)
     most = same_Some x.most y.most (sym x.limit ∙ y.limit)
 
     not_before : (s t : TestId) (m n : ℕ) (x : IsFirstPassing soc limits s m) (y : IsFirstPassing soc limits t n) → x.most ≡ y.most → x.place < y.place → ⊥
-    not_before s t m n x y same less = none_some (find (nat_lt y.most) (powers_of limits.profiles x.live)) m (y.earlier x.place x.live less x.there) (ap (λ (k : ℕ). find (nat_lt k) (powers_of limits.profiles x.live)) (sym same) ∙ x.passes)
+    not_before s t m n x y same less = never_both (find (nat_lt y.most) (powers_of limits.profiles x.live)) m (y.earlier x.place x.live less x.there) (ap (λ (k : ℕ). find (nat_lt k) (powers_of limits.profiles x.live)) (sym same) ∙ x.passes)
 
     at_one : x.place ≡ y.place → (s ≡ t) × (m ≡ n)
     at_one same =

@@ -10,22 +10,13 @@ use Rattle.limits_text.specs.declared.items.Item.{Item as ReadItem}
 use Rattle.limits_text.specs.Items.{Item}
 use Rattle.limits_text.specs.Views.{item_of}
 use Rattle.limits_text.specs.Steps.{last_from, may_follow}
-
-pub or_comm : (p q : Bool) → (p || q) ≡ (q || p)
-or_comm true true = refl
-or_comm true false = refl
-or_comm false true = refl
-or_comm false false = refl
-
-pub or_false : (p : Bool) → (p || false) ≡ p
-or_false true = refl
-or_false false = refl
+use Rattle.common_lemmas.proofs.Tests.{or_false_right, or_comm}
 
 pub list_any-reverse : {X : Type 0} (p : X → Bool) (xs : List X) → list_any p (reverse xs) ≡ list_any p xs
 list_any-reverse p [] = refl
 list_any-reverse p (x ∷ xs) =
     ap (list_any p) (reverse-append (x ∷ []) xs) ∙ list_any-append p (reverse xs) (x ∷ []) ∙ or_comm (list_any p (reverse xs)) (p x || false)
-    ∙ ap (λ b. b || list_any p (reverse xs)) (or_false (p x)) ∙ ap (λ b. p x || b) (list_any-reverse p xs)
+    ∙ ap (λ b. b || list_any p (reverse xs)) (or_false_right (p x)) ∙ ap (λ b. p x || b) (list_any-reverse p xs)
 
 pub some_done : (p : Item → Bool) (list found : List ReadItem) (b : Bool) → found ≡ list → b ≡ list_any p (map item_of found) → b ≡ list_any p (reverse (map item_of list))
 some_done p list found b same is = is ∙ ap (λ l. list_any p (map item_of l)) same ∙ sym (list_any-reverse p (map item_of list))

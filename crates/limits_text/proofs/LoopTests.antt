@@ -9,11 +9,12 @@ use Rattle.soc_model.specs.Chips.{SocValue}
 use Rattle.plan_model.specs.Plans.{LimitsValue}
 use Rattle.plan_model.specs.Rules.{live_ids}
 use Rattle.plan_model.specs.SoundLimits.{IsAcyclic}
-use Rattle.plan_model.proofs.Lists.{contains_at, at_contains}
+use Rattle.plan_model.proofs.Lists.{at_contains}
 use Rattle.live_tests.proofs.Precedences.{place_among, place_there, pair_there, StandsFor, stands_for}
 use Rattle.limits_text.specs.Loops.{IsWalk, IsFirstLoop, HasRank, AreAt}
 use Rattle.live_tests.specs.Names.{precedences}
 use Rattle.limits_text.proofs.FirstLoops.{AreWithin}
+use Rattle.common_lemmas.proofs.Lists.{contains_at}
 
 -- ---- ranks
 

@@ -20,7 +20,6 @@ use Rattle.soc_model.specs.Lookups.{test_places, module_place}
 use Rattle.soc_model.proofs.Places.{slice_get-from_position, test_places-at}
 use Rattle.plan_model.specs.Plans.{LimitsValue}
 use Rattle.plan_model.specs.Rules.{live_ids}
-use Rattle.plan_model.proofs.Lists.{from_map, contains_at}
 use Rattle.plan_model.specs.SoundLimits.{IsAcyclic}
 use Rattle.live_tests.specs.Names.{places_of, both_places, precedences}
 use Rattle.limits_text.specs.declared.places.Row.{Row}
@@ -38,6 +37,8 @@ use Rattle.limits_text.specs.declared.LimFault.TheVariants as fault
 use Rattle.limits_text.specs.declared.items.Item.{Item as ReadItem}
 use Rattle.limits_text.proofs.Reading.{unknown_said}
 use Rattle.outside.specs.Words.{words_of}
+use Rattle.common_lemmas.proofs.Tests.{same_number}
+use Rattle.common_lemmas.proofs.Lists.{from_map, contains_at}
 
 -- one item more of a list that is mapped
 pub map_more : {X Y : Type 0} (f : X → Y) (xs : List X) (k : ℕ) (d x : X) (ys : List Y) → ys ≡ map f (take k xs) → k < length xs → x ≡ get_or xs k d → ys ++ f x ∷ [] ≡ map f (take (k + 1) xs)
@@ -71,9 +72,6 @@ said_found p xs y = said_if (nat_lt (position_or_len p xs) (length xs)) (positio
 said_twice : {X Y Z : Type 0} (f : X → Y) (z : Z) (o : Option X) → option_map (λ (y : Y). z) (option_map f o) ≡ option_map (λ (x : X). z) o
 said_twice f z None = refl
 said_twice f z (Some x) = refl
-
-same_eq : (n : ℕ) → nat_eq n n ≡ true
-same_eq n = grind (arith, nat_tests)
 
 other_eq : (a b : ℕ) → a ≢ b → nat_eq a b ≡ false
 other_eq a b other = grind (arith, nat_tests)
@@ -114,7 +112,7 @@ noted_more ids number count tests t entries so_far = filled (entry_of ids number
     by : (k : ℕ) (d : Option (Option ℕ)) → k < count → (k ≡ t.number) ⊎ (k ≢ t.number) → get_or (set entries t.number y) k d ≡ entry_of ids number (tests ++ t ∷ []) k
     by k d h (inl same) =
         ap (λ j. get_or (set entries t.number y) j d) same ∙ get_or-set_same entries t.number y d (omega (arith, h, same, long))
-        ∙ ap (λ b. if b then y else entry_of ids number tests t.number) (sym (same_eq t.number)) ∙ sym (entry_more ids number tests t t.number) ∙ ap (entry_of ids number (tests ++ t ∷ [])) (sym same)
+        ∙ ap (λ b. if b then y else entry_of ids number tests t.number) (sym (same_number t.number)) ∙ sym (entry_more ids number tests t t.number) ∙ ap (entry_of ids number (tests ++ t ∷ [])) (sym same)
     by k d h (inr other) =
         get_or-set_other entries t.number k y d other ∙ ap (λ l. get_or l k d) so_far ∙ get_or-map-range_with_len (entry_of ids number tests) 0 count k k d h (zero-add k)
         ∙ ap (λ b. if b then Some (position (same_test (record { «module» = number; test = k })) ids) else entry_of ids number tests k) (sym (other_eq k t.number other)) ∙ sym (entry_more ids number tests t k)

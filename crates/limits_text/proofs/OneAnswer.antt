@@ -20,19 +20,17 @@ use Rattle.outside.proofs.Refusals.{refused_once, not_refused}
 use Rattle.limits_text.proofs.LoopTests.{ranked}
 use Rattle.limits_text.proofs.OneLoop.{one_loop_of, no_ranked_loop}
 use Rattle.limits_text.proofs.Reading.{one_limits, one_unknown}
+use Rattle.common_lemmas.proofs.Options.{never_both}
 
 -- ---- of limits that are known
 
 one_known : (bytes : List ℕ) (soc : SocValue) (a b : LimitsValue) → SaysKnown bytes soc a → SaysKnown bytes soc b → a ≡ b
 one_known bytes soc a b x y = one_limits bytes a b x.says y.says
 
-none_some : {X : Type 0} (o : Option X) (x : X) → o ≡ None → o ≡ Some x → ⊥
-none_some o x e f = cc
-
 known_or_not : (bytes : List ℕ) (soc : SocValue) (limits : LimitsValue) (line : ℕ) → SaysKnown bytes soc limits → NamesUnknown bytes soc line → ⊥
 known_or_not bytes soc limits line known names =
     let same : known.says.items ≡ names.says.items = (one_text (words_of bytes) known.says.form names.says.form known.says.items names.says.items known.says.text names.says.text).1 in
-    none_some (first_unknown soc known.says.items) line known.known (ap (first_unknown soc) same ∙ names.first)
+    never_both (first_unknown soc known.says.items) line known.known (ap (first_unknown soc) same ∙ names.first)
 
 -- precedences with a loop have no ranks
 pub loop_or_ranks : (soc : SocValue) (limits : LimitsValue) (tests : List TestId) → IsLoopOf soc limits tests → IsAcyclic soc limits → ⊥

@@ -9,6 +9,7 @@ use Rattle.plan_model.specs.Plans.{LimitsValue}
 use Rattle.plan_model.specs.Rules.{live_ids}
 use Rattle.limits_text.specs.Loops.{IsTaken, take_away, IsFirstRemaining, IsForerunner, IsWalk, IsFirstLoop, IsLoopOf, HasRank}
 use Rattle.live_tests.specs.Names.{precedences}
+use Rattle.common_lemmas.proofs.Lists.{same_somes}
 
 -- ---- one walk
 
@@ -87,19 +88,10 @@ one_loop pairs count c d a b = by (cases_order a.last b.last)
     by (inr (inl less)) = absurd (comes_later pairs count c d a b less)
     by (inr (inr less)) = absurd (comes_later pairs count d c b a less)
 
-all_some : {X : Type 0} (xs ys : List X) → map Some xs ≡ map Some ys → xs ≡ ys
-all_some [] [] e = refl
-all_some [] (y ∷ ys) e = cc
-all_some (x ∷ xs) [] e = cc
-all_some (x ∷ xs) (y ∷ ys) e =
-    let first : Some x ≡ Some y = cc in
-    let rest : map Some xs ≡ map Some ys = cc in
-    ap (λ z. z ∷ xs) (same_Some x y first) ∙ ap (λ l. y ∷ l) (all_some xs ys rest)
-
 -- a chip refuses of limits at most one loop
 pub one_loop_of : (soc : SocValue) (limits : LimitsValue) (a b : List TestId) → IsLoopOf soc limits a → IsLoopOf soc limits b → a ≡ b
 one_loop_of soc limits a b c d =
-    all_some a b (sym c.2 ∙ ap (map (slice_get (live_ids soc))) (one_loop (precedences soc limits) (length (live_ids soc)) c.0 d.0 c.1 d.1) ∙ d.2)
+    same_somes a b (sym c.2 ∙ ap (map (slice_get (live_ids soc))) (one_loop (precedences soc limits) (length (live_ids soc)) c.0 d.0 c.1 d.1) ∙ d.2)
 
 -- ---- ranks
 

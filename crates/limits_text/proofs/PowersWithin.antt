@@ -9,13 +9,11 @@ use Rattle.soc_model.specs.declared.TestId.{TestId}
 use Rattle.soc_model.specs.Chips.{SocValue, LiveTest, live_tests, id_of, same_test}
 use Rattle.plan_model.specs.Plans.{ProfileValue, LimitsValue, of_first, step_power, power_of_id}
 use Rattle.plan_model.specs.SoundLimits.{Grow, IsSoundProfile, IsSoundLimits}
-use Rattle.plan_model.proofs.Lists.{from_map}
 use Rattle.limits_text.specs.Meaning.{powers_named, powers_of, NonePasses}
+use Rattle.common_lemmas.proofs.Tests.{lt_false, le_true}
+use Rattle.common_lemmas.proofs.Lists.{from_map}
 
 -- ---- the steps of a profile
-
-le_true : (a b : ℕ) → a ≤ b → nat_le a b ≡ true
-le_true a b e = grind (arith, nat_tests)
 
 le_false : (a b : ℕ) → b + 1 ≤ a → nat_le a b ≡ false
 le_false a b e = grind (arith, nat_tests)
@@ -38,9 +36,6 @@ step_begins from now (suc n) (t ∷ steps) s g at = by (nat_le t.0 s.0) (step_be
     by false e f = f
 
 -- ---- powers
-
-lt_false : (a b : ℕ) → b ≤ a → nat_lt a b ≡ false
-lt_false a b e = grind (arith, nat_tests)
 
 none_found : (most : ℕ) (xs : List ℕ) → ((i x : ℕ) → slice_get xs i ≡ Some x → x ≤ most) → find (nat_lt most) xs ≡ None
 none_found most [] small = refl

@@ -29,11 +29,10 @@ use Rattle.limits_text.specs.Texts.{number_line, power_lines, before_line, profi
 use Rattle.limits_text.proofs.WordFacts.{title_is, wires_is, number-decimal}
 use Rattle.limits_text.proofs.PrintedWords.{IsSmall, IsSmallTest, number_line_words}
 use Rattle.limits_text.proofs.Printing.{Printed, amount_goes, power_is, budget_is, AreSmallTests, befores_go, OneEach, AreSmallProfiles, profiles_go}
+use Rattle.common_lemmas.proofs.Tests.{le_true}
+use Rattle.common_lemmas.proofs.Lists.{all_at}
 
 -- ---- the tests of a sound chip have small numbers
-
-all_at : {X : Type 0} (P : X → Type 0) (xs : List X) (n : ℕ) (x : X) → All P xs → slice_get xs n ≡ Some x → P x
-all_at P xs n x all at = subst P (get_or_from_slice_get xs n x x at) (All-get_or P xs n x (slice_get_within xs n x at) all)
 
 small_below : (n : ℕ) → n < NUMBER_WORD_MOST + 1 → IsSmall n
 small_below n less = omega arith
@@ -84,11 +83,8 @@ small_profiles soc sound (p ∷ profiles) all =
 
 -- ---- the lines before the profiles
 
-range_true : (a b : ℕ) → a ≤ b → nat_le a b ≡ true
-range_true a b e = grind (arith, nat_tests)
-
 wires_range : (w : ℕ) → 1 ≤ w → w ≤ WIRES_MOST → is_in_range Wires w ≡ true
-wires_range w some few = rw (range_true 1 w some, range_true w WIRES_MOST few) refl
+wires_range w some few = rw (le_true 1 w some, le_true w WIRES_MOST few) refl
 
 wires_in_word : AllInWord (codes "Wires")
 wires_in_word = (refl, (refl, (refl, (refl, (refl, tt)))))
@@ -117,7 +113,7 @@ front_from : (whole : List Word) (form : Bool) (items : List Item) (line : ℕ) 
     → record (limits_of items) { budget = b; before = (limits_of items).before ++ before } ≡ plain w o before b
     → Printed whole form items line (number_line (codes "Budget") b ++ (flat_map before_line before ++ rest)) → Front whole form rest (plain w o before b)
 front_from whole form items line rest w o before b few small once wires is p =
-    let q = amount_goes whole form items line (flat_map before_line before ++ rest) (codes "Budget") Budget b budget_is (omega arith) budget_in_word (range_true b BUDGET_MOST few) (omega (arith, few)) once p in
+    let q = amount_goes whole form items line (flat_map before_line before ++ rest) (codes "Budget") Budget b budget_is (omega arith) budget_in_word (le_true b BUDGET_MOST few) (omega (arith, few)) once p in
     let k = befores_go whole form (amount_item Budget b ∷ items) (line + 1) rest before small q in
     record { now = k.now; line = k.line; printed = k.printed; limits_are = k.limits_are ∙ is; wires = k.amounts Wires ∙ wires }
 
@@ -128,7 +124,7 @@ front whole form rest w None before b some most power few small p =
     front_from whole form (amount_item Wires w ∷ []) (2 + 1) rest w None before b few small refl refl refl q
 front whole form rest w (Some n) before b some most power few small p =
     let q = amount_goes whole form [] 2 (number_line (codes "Power") n ++ (number_line (codes "Budget") b ++ (flat_map before_line before ++ rest))) (codes "Wires") Wires w wires_is (omega arith) wires_in_word (wires_range w some most) (omega (arith, most)) refl p in
-    let r = amount_goes whole form (amount_item Wires w ∷ []) (2 + 1) (number_line (codes "Budget") b ++ (flat_map before_line before ++ rest)) (codes "Power") Power n power_is (omega arith) power_in_word (range_true n POWER_MOST power) (omega (arith, power)) refl q in
+    let r = amount_goes whole form (amount_item Wires w ∷ []) (2 + 1) (number_line (codes "Budget") b ++ (flat_map before_line before ++ rest)) (codes "Power") Power n power_is (omega arith) power_in_word (le_true n POWER_MOST power) (omega (arith, power)) refl q in
     front_from whole form (amount_item Power n ∷ amount_item Wires w ∷ []) ((2 + 1) + 1) rest w (Some n) before b few small refl refl refl r
 
 -- ---- whole texts

@@ -21,6 +21,8 @@ use Rattle.limits_text.specs.Texts.{test_fields, number_line, before_line, step_
 use Rattle.limits_text.proofs.WordFacts.{number-decimal}
 use Rattle.limits_text.proofs.PrintedWords.{IsSmall, IsSmallTest, AreSmall, names_test, test_words, test_fields_words, number_line_words, before_words, before_line_words, pair_words, pairs_are, step_fields_words}
 use Rattle.limits_text.proofs.Taking.{false_from}
+use Rattle.common_lemmas.proofs.Lists.{at_seam, at_left}
+use Rattle.common_lemmas.proofs.Tests.{or_cases}
 
 -- the words of the items of a text are these items, and then the words of the rest
 pub record Printed (whole : List Word) (form : Bool) (items : List Item) (line : ℕ) (rest : List ℕ) : Type 0 where
@@ -136,19 +138,6 @@ profile_line_words line p rest test steps =
     ends [] = refl
     ends (t ∷ steps) = refl
 
-or_cases : (a b : Bool) → (a || b) ≡ true → (a ≡ true) ⊎ (b ≡ true)
-or_cases true b e = inl refl
-or_cases false b e = inr e
-
-in_front : {X : Type 0} (xs ys : List X) (p : ℕ) (x : X) → slice_get xs p ≡ Some x → slice_get (xs ++ ys) p ≡ Some x
-in_front [] ys p x e = cc
-in_front (y ∷ xs) ys zero x e = e
-in_front (y ∷ xs) ys (suc p) x e = in_front xs ys p x e
-
-at_length : {X : Type 0} (xs ys : List X) (y : X) → slice_get (xs ++ y ∷ ys) (length xs) ≡ Some y
-at_length [] ys y = refl
-at_length (x ∷ xs) ys y = at_length xs ys y
-
 -- a test that has a profile among the items has one in the limits
 profile_in : (items : List Item) (id : TestId) → has_profile id items ≡ true → (q : ℕ) × (x : ProfileValue) × (slice_get (limits_of items).profiles q ≡ Some x) × (x.test ≡ id)
 profile_in [] id e = cc
@@ -160,8 +149,8 @@ profile_in (profile_item line other steps ∷ items) id e = by (or_cases (same_t
   where
     by : (same_test id other ≡ true) ⊎ (has_profile id items ≡ true) → (has_profile id items ≡ true → (q : ℕ) × (x : ProfileValue) × (slice_get (limits_of items).profiles q ≡ Some x) × (x.test ≡ id))
         → (q : ℕ) × (x : ProfileValue) × (slice_get (limits_of (profile_item line other steps ∷ items)).profiles q ≡ Some x) × (x.test ≡ id)
-    by (inl f) again = (length (limits_of items).profiles, record { test = other; steps = steps }, at_length (limits_of items).profiles [] (record { test = other; steps = steps }), sym (same_test_is id other f))
-    by (inr f) again = let k = again f in (k.0, k.1, in_front (limits_of items).profiles (record { test = other; steps = steps } ∷ []) k.0 k.1 k.2, k.3)
+    by (inl f) again = (length (limits_of items).profiles, record { test = other; steps = steps }, at_seam (limits_of items).profiles [] (record { test = other; steps = steps }), sym (same_test_is id other f))
+    by (inr f) again = let k = again f in (k.0, k.1, at_left (limits_of items).profiles (record { test = other; steps = steps } ∷ []) k.0 k.1 k.2, k.3)
 
 abbrev pub OneEach : List ProfileValue → Type 0
 OneEach profiles = (p q : ℕ) (x y : ProfileValue) → slice_get profiles p ≡ Some x → slice_get profiles q ≡ Some y → x.test ≡ y.test → p ≡ q
@@ -169,7 +158,7 @@ OneEach profiles = (p q : ℕ) (x y : ProfileValue) → slice_get profiles p ≡
 new_test : (items : List Item) (p : ProfileValue) (profiles : List ProfileValue) → OneEach ((limits_of items).profiles ++ p ∷ profiles) → has_profile p.test items ≡ false
 new_test items p profiles one = false_from (has_profile p.test items) (λ e.
     (let k = profile_in items p.test e in
-    let same = one k.0 (length (limits_of items).profiles) k.1 p (in_front (limits_of items).profiles (p ∷ profiles) k.0 k.1 k.2) (at_length (limits_of items).profiles profiles p) k.3 in
+    let same = one k.0 (length (limits_of items).profiles) k.1 p (at_left (limits_of items).profiles (p ∷ profiles) k.0 k.1 k.2) (at_seam (limits_of items).profiles profiles p) k.3 in
     absurd (omega (arith, same, slice_get_within (limits_of items).profiles k.0 k.1 k.2))))
 
 pub record AfterProfiles (whole : List Word) (items : List Item) (rest : List ℕ) (profiles : List ProfileValue) : Type 0 where

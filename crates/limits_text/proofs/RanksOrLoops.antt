@@ -9,7 +9,7 @@ use Rattle.std.proofs.lemmas.Option.{slice_get-get_or, slice_get_within}
 use Rattle.soc_model.specs.declared.TestId.{TestId}
 use Rattle.plan_model.specs.Rules.{live_ids}
 use Rattle.plan_model.specs.SoundLimits.{IsAcyclic}
-use Rattle.plan_model.proofs.Lists.{contains_at, at_contains}
+use Rattle.plan_model.proofs.Lists.{at_contains}
 use Rattle.live_tests.proofs.Precedences.{pairs_within}
 use Rattle.limits_text.specs.Loops.{IsFirstLoop, AreAt, IsLoopOf, HasRank}
 use Rattle.live_tests.specs.Names.{precedences}
@@ -17,9 +17,10 @@ use Rattle.limits_text.specs.Orders.{is_in, held, IsOrdered, IsTaking, least_bef
 use Rattle.limits_text.specs.Laws.{RanksOrLoops}
 use Rattle.limits_text.proofs.SoundText.{push_cases}
 use Rattle.limits_text.proofs.Taking.{Once, EachAt, true_or_false, in_at, in_take_at, at_in_take, few, each_push, once_push, all_gone, some_left}
-use Rattle.limits_text.proofs.Walking.{IsWalking, least_small, walk_none, at_front, walk_more, walk_short, walk_ends}
+use Rattle.limits_text.proofs.Walking.{IsWalking, least_small, walk_none, walk_more, walk_short, walk_ends}
 use Rattle.limits_text.proofs.FirstLoops.{AreWithin, Marked, all_ranked, first_left, loop_found}
 use Rattle.limits_text.proofs.LoopTests.{acyclic, loop_within}
+use Rattle.common_lemmas.proofs.Lists.{at_left, contains_at}
 
 -- the values of a function below `n`
 table : {X : Type 0} → (ℕ → X) → ℕ → List X
@@ -84,12 +85,12 @@ taken_more pairs count order j t f = record {
     by : (p i x : ℕ) → Contains pairs (i, x) → (slice_get order p ≡ Some x) ⊎ ((p ≡ length order) × (j ≡ x)) → is_in (take p (order ++ j ∷ [])) i ≡ true
     by p i x c (inl at) =
         let a = in_take_at order p i (t.ordered p i x at c) in
-        at_in_take (order ++ j ∷ []) p a.0 i a.1 (at_front order (j ∷ []) a.0 i a.2)
+        at_in_take (order ++ j ∷ []) p a.0 i a.1 (at_left order (j ∷ []) a.0 i a.2)
     by p i x c (inr e) =
         let k = contains_at pairs (i, x) c in
         let gone : is_in order i ≡ true = all_gone order pairs i j k.0 f.none (k.1 ∙ ap (λ n. Some (i, n)) (sym e.1)) in
         let a = in_at order i gone in
-        at_in_take (order ++ j ∷ []) p a.0 i (omega (arith, e.0, slice_get_within order a.0 i a.1)) (at_front order (j ∷ []) a.0 i a.1)
+        at_in_take (order ++ j ∷ []) p a.0 i (omega (arith, e.0, slice_get_within order a.0 i a.1)) (at_left order (j ∷ []) a.0 i a.1)
 
 take_all : (pairs : List (ℕ × ℕ)) (count fuel : ℕ) (order : List ℕ) → AreTaken pairs count order → count < fuel + length order → (all : List ℕ) × IsTaking pairs count all
 take_all pairs count zero order t room = absurd (omega (arith, room, few order count t.within t.once))

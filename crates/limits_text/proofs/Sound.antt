@@ -19,6 +19,7 @@ use Rattle.outside.specs.Words.{Word}
 use Rattle.limits_text.specs.Items.{number, is_title, key_of, is_in_range, Item, amount_item, before_item, profile_item, has_amount, has_profile, NamesTest, ArePairs, AreSteps}
 use Rattle.limits_text.specs.Grammar.{Comes, AreItems, form_number, IsText}
 use Rattle.limits_text.specs.Steps.{ended_at, Part, title, version, between, wants, module_for, test_for, steps_for, power_for, State, start, at, at_if, last_from, may_follow, begin_by, after_title, after_version, after_amount, after_module, named, after_test, end_profile, after_step, after_power, step_at, step_from, run}
+use Rattle.common_lemmas.proofs.Tests.{le_from_true, less_from_true}
 
 -- ---- what was read of an unfinished item
 
@@ -344,24 +345,18 @@ grow_more : (bound : ℕ) (s : ℕ × ℕ) (steps : List (ℕ × ℕ)) (from pow
 grow_more bound s [] from power g past = (g.0, (omega arith, tt))
 grow_more bound s (t ∷ steps) from power g past = (g.0, grow_more (s.0 + 1) t steps from power g.1 past)
 
-less_true : (a b : ℕ) → nat_lt a b ≡ true → a < b
-less_true a b e = grind (arith, nat_tests)
-
-most_true : (a b : ℕ) → nat_le a b ≡ true → a ≤ b
-most_true a b e = grind (arith, nat_tests)
-
 so_far_more : (steps : List (ℕ × ℕ)) (from power : ℕ) → SoFar steps → may_follow steps from ≡ true → nat_le power POWER_MOST ≡ true → SoFar (steps ++ (from, power) ∷ [])
 so_far_more [] from power so may small =
     let zero_is = eqb-true from 0 may in
-    record { begins = (power, [], ap (λ n. (n, power) ∷ []) zero_is); few = omega arith; grows = (omega arith, tt); small = All-push (λ (s : ℕ × ℕ). s.1 ≤ POWER_MOST) [] (from, power) (All-nil (λ (s : ℕ × ℕ). s.1 ≤ POWER_MOST)) (most_true power POWER_MOST small) }
+    record { begins = (power, [], ap (λ n. (n, power) ∷ []) zero_is); few = omega arith; grows = (omega arith, tt); small = All-push (λ (s : ℕ × ℕ). s.1 ≤ POWER_MOST) [] (from, power) (All-nil (λ (s : ℕ × ℕ). s.1 ≤ POWER_MOST)) (le_from_true power POWER_MOST small) }
 so_far_more (s ∷ steps) from power so may small =
     let parts = and_parts (nat_lt (last_from s.0 steps) from) (nat_lt (length (s ∷ steps)) STEPS_MOST) may in
-    let few : length (s ∷ steps) < STEPS_MOST = less_true (length (s ∷ steps)) STEPS_MOST parts.1 in
+    let few : length (s ∷ steps) < STEPS_MOST = less_from_true (length (s ∷ steps)) STEPS_MOST parts.1 in
     record {
       begins = (so.begins.0, so.begins.1 ++ (from, power) ∷ [], ap (λ l. l ++ (from, power) ∷ []) so.begins.2);
       few = omega (arith, few, length-append steps ((from, power) ∷ []));
-      grows = grow_more 0 s steps from power so.grows (less_true (last_from s.0 steps) from parts.0);
-      small = All-push (λ (s : ℕ × ℕ). s.1 ≤ POWER_MOST) (s ∷ steps) (from, power) so.small (most_true power POWER_MOST small);
+      grows = grow_more 0 s steps from power so.grows (less_from_true (last_from s.0 steps) from parts.0);
+      small = All-push (λ (s : ℕ × ℕ). s.1 ≤ POWER_MOST) (s ∷ steps) (from, power) so.small (le_from_true power POWER_MOST small);
     }
 
 power_valid : (form : Bool) (done : List Item) (line : ℕ) (id : TestId) (steps : List (ℕ × ℕ)) (from : ℕ) (ws : List Word) (w : Word) (o : Option ℕ) → number w.0 ≡ o → Valid form done (power_for line id steps from) ws → Holds (after_power form done line id steps from o) (ws ++ w ∷ [])

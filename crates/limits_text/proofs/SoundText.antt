@@ -6,7 +6,7 @@ use Rattle.std.proofs.lemmas.Grind.{common_steps}
 use Rattle.std.proofs.lemmas.Bool.Decides.{nat_tests}
 use Rattle.std.proofs.lemmas.List.{reverse-append}
 use Rattle.std.proofs.lemmas.List.Elements.{All-nil, All-push, All-cons, All-head, All-tail}
-use Rattle.std.proofs.lemmas.Bool.{and_parts}
+use Rattle.std.proofs.lemmas.Bool.{and_parts, or_right}
 use Rattle.std.proofs.lemmas.Option.{same_Some}
 use Rattle.soc_model.specs.declared.TestId.{TestId}
 use Rattle.soc_model.specs.declared.TheConstants.{NUMBER_WORD_MOST, POWER_MOST}
@@ -19,11 +19,9 @@ use Rattle.outside.specs.Words.{Word}
 use Rattle.limits_text.specs.Items.{number, Item, amount_item, before_item, profile_item, has_amount, has_profile, ArePairs}
 use Rattle.limits_text.specs.Grammar.{AreItems, IsText, ProfileComes}
 use Rattle.limits_text.specs.Meaning.{limits_of, is_known, line_if, unknown_line, or_first, first_line, first_unknown, powers_named, powers_of, NonePasses}
+use Rattle.common_lemmas.proofs.Tests.{false_true, le_from_true}
 
 -- ---- ranges
-
-most_true : (a b : ℕ) → nat_le a b ≡ true → a ≤ b
-most_true a b e = grind (arith, nat_tests)
 
 pub record HasWires (limits : LimitsValue) : Type 0 where
   pub some : 1 ≤ limits.wires
@@ -33,7 +31,7 @@ pub wires_in_range : (form : Bool) (items : List Item) (ws : List Word) → AreI
 wires_in_range form [] ws is has = cc
 wires_in_range form (amount_item Wires n ∷ earlier) ws is has =
     let parts = and_parts (nat_le 1 n) (nat_le n WIRES_MOST) is.4.range in
-    record { some = most_true 1 n parts.0; few = most_true n WIRES_MOST parts.1 }
+    record { some = le_from_true 1 n parts.0; few = le_from_true n WIRES_MOST parts.1 }
 wires_in_range form (amount_item Power n ∷ earlier) ws is has = let e = wires_in_range form earlier is.0 is.3 has in record { some = e.some; few = e.few }
 wires_in_range form (amount_item Budget n ∷ earlier) ws is has = let e = wires_in_range form earlier is.0 is.3 has in record { some = e.some; few = e.few }
 wires_in_range form (before_item line a b ∷ earlier) ws is has = let e = wires_in_range form earlier is.0 is.3 has in record { some = e.some; few = e.few }
@@ -41,7 +39,7 @@ wires_in_range form (profile_item line id steps ∷ earlier) ws is has = let e =
 
 pub power_in_range : (form : Bool) (items : List Item) (ws : List Word) → AreItems form items ws → IfSome (limits_of items).power (λ most. most ≤ POWER_MOST)
 power_in_range form [] ws is = tt
-power_in_range form (amount_item Power n ∷ earlier) ws is = most_true n POWER_MOST is.4.range
+power_in_range form (amount_item Power n ∷ earlier) ws is = le_from_true n POWER_MOST is.4.range
 power_in_range form (amount_item Wires n ∷ earlier) ws is = power_in_range form earlier is.0 is.3
 power_in_range form (amount_item Budget n ∷ earlier) ws is = power_in_range form earlier is.0 is.3
 power_in_range form (before_item line a b ∷ earlier) ws is = power_in_range form earlier is.0 is.3
@@ -49,7 +47,7 @@ power_in_range form (profile_item line id steps ∷ earlier) ws is = power_in_ra
 
 pub budget_in_range : (form : Bool) (items : List Item) (ws : List Word) → AreItems form items ws → (limits_of items).budget ≤ BUDGET_MOST
 budget_in_range form [] ws is = omega arith
-budget_in_range form (amount_item Budget n ∷ earlier) ws is = most_true n BUDGET_MOST is.4.range
+budget_in_range form (amount_item Budget n ∷ earlier) ws is = le_from_true n BUDGET_MOST is.4.range
 budget_in_range form (amount_item Wires n ∷ earlier) ws is = budget_in_range form earlier is.0 is.3
 budget_in_range form (amount_item Power n ∷ earlier) ws is = budget_in_range form earlier is.0 is.3
 budget_in_range form (before_item line a b ∷ earlier) ws is = budget_in_range form earlier is.0 is.3
@@ -143,10 +141,6 @@ push_cases (z ∷ xs) y x (suc p) e = next (push_cases xs y x p e)
 same_itself : (id : TestId) → same_test id id ≡ true
 same_itself id = grind (arith, nat_tests)
 
-or_true : (a b : Bool) → b ≡ true → (a || b) ≡ true
-or_true true b e = refl
-or_true false b e = e
-
 -- a profile was given
 profile_given : (items : List Item) (p : ℕ) (x : ProfileValue) → slice_get (limits_of items).profiles p ≡ Some x → has_profile x.test items ≡ true
 profile_given [] p x e = cc
@@ -157,11 +151,8 @@ profile_given (before_item line a b ∷ earlier) p x e = profile_given earlier p
 profile_given (profile_item line id steps ∷ earlier) p x e = by (push_cases (limits_of earlier).profiles (record { test = id; steps = steps }) x p e) (profile_given earlier p x)
   where
     by : (slice_get (limits_of earlier).profiles p ≡ Some x) ⊎ ((p ≡ length (limits_of earlier).profiles) × (record { test = id; steps = steps } ≡ x)) → (slice_get (limits_of earlier).profiles p ≡ Some x → has_profile x.test earlier ≡ true) → has_profile x.test (profile_item line id steps ∷ earlier) ≡ true
-    by (inl f) again = or_true (same_test x.test id) (has_profile x.test earlier) (again f)
+    by (inl f) again = or_right (same_test x.test id) (has_profile x.test earlier) (again f)
     by (inr f) again = subst (λ (y : ProfileValue). has_profile y.test (profile_item line id steps ∷ earlier) ≡ true) f.1 (ap (λ b. b || has_profile id earlier) (same_itself id))
-
-false_true : (b : Bool) → b ≡ false → b ≡ true → ⊥
-false_true b e f = cc
 
 abbrev OneProfile : List ProfileValue → Type 0
 OneProfile profiles = (p q : ℕ) (x y : ProfileValue) → slice_get profiles p ≡ Some x → slice_get profiles q ≡ Some y → x.test ≡ y.test → p ≡ q

@@ -6,32 +6,18 @@ use Rattle.live_tests.specs.Neighbours.{after, tests_of}
 use Rattle.std.specs.List.{All, Contains}
 use Rattle.std.proofs.Math.Seq.{drop-cons}
 use Rattle.std.proofs.lemmas.Grind.{common_steps, get_or-set_at}
-use Rattle.std.proofs.lemmas.Bool.{cases_eq, cases_lt, eqb-true, eq-eqb, ne_eqb}
+use Rattle.std.proofs.lemmas.Bool.{cases_eq, cases_lt, eqb-true, eq-eqb, ne_eqb, or_right, or_left}
 use Rattle.std.proofs.lemmas.List.{get_or-map, take_more, take_all, take-append-drop, take-append-le, get_or-set_other, length-set}
 use Rattle.std.proofs.lemmas.List.Elements.{All-nil, All-cons, All-head, All-tail}
 use Rattle.std.proofs.lemmas.List.Folds.{list_any-append}
 use Rattle.std.proofs.lemmas.Option.{slice_get-get_or, slice_get_within, get_or_from_slice_get, same_Some}
-use Rattle.plan_model.proofs.Lists.{contains_at}
 use Rattle.limits_text.proofs.SoundText.{push_cases}
 use Rattle.indexmap.proofs.IndexTableLemmas.Probe.{pigeonhole}
 use Rattle.limits_text.specs.Orders.{is_in, holds_back, one_if, held, copies, Counts, IsKept, GoesOn, IsOrdered, IsTaking, AreMarked}
+use Rattle.common_lemmas.proofs.Lists.{contains_from, contains_at, in_take, from_take}
+use Rattle.common_lemmas.proofs.Tests.{false_true, or_cases, or_false_right}
 
 -- ---- places in lists
-
-pub or_false_right : (p : Bool) → (p || false) ≡ p
-or_false_right true = refl
-or_false_right false = refl
-
-pub or_cases : (p q : Bool) → (p || q) ≡ true → (p ≡ true) ⊎ (q ≡ true)
-or_cases true q e = inl refl
-or_cases false q e = inr e
-
-pub or_here : (p q : Bool) → p ≡ true → (p || q) ≡ true
-or_here p q e = rw e refl
-
-pub or_there : (p q : Bool) → q ≡ true → (p || q) ≡ true
-or_there true q e = refl
-or_there false q e = e
 
 -- what is in a list stands at a place
 pub in_at : (xs : List ℕ) (x : ℕ) → is_in xs x ≡ true → (p : ℕ) × (slice_get xs p ≡ Some x)
@@ -44,35 +30,21 @@ in_at (y ∷ xs) x e = by (or_cases (nat_eq x y) (is_in xs x) e) (in_at xs x)
 
 pub at_in : (xs : List ℕ) (p x : ℕ) → slice_get xs p ≡ Some x → is_in xs x ≡ true
 at_in [] p x e = cc
-at_in (y ∷ xs) zero x e = or_here (nat_eq x y) (is_in xs x) (eq-eqb x y (sym (same_Some y x e)))
-at_in (y ∷ xs) (suc p) x e = or_there (nat_eq x y) (is_in xs x) (at_in xs p x e)
+at_in (y ∷ xs) zero x e = or_left (nat_eq x y) (is_in xs x) (eq-eqb x y (sym (same_Some y x e)))
+at_in (y ∷ xs) (suc p) x e = or_right (nat_eq x y) (is_in xs x) (at_in xs p x e)
 
 pub in_append : (xs ys : List ℕ) (x : ℕ) → is_in xs x ≡ true → is_in (xs ++ ys) x ≡ true
-in_append xs ys x e = list_any-append (nat_eq x) xs ys ∙ or_here (is_in xs x) (is_in ys x) e
-
-pub get_take : {X : Type 0} (xs : List X) (k p : ℕ) (x : X) → slice_get (take k xs) p ≡ Some x → (p < k) × (slice_get xs p ≡ Some x)
-get_take [] zero p x e = cc
-get_take [] (suc k) p x e = cc
-get_take (y ∷ xs) zero p x e = cc
-get_take (y ∷ xs) (suc k) zero x e = (omega arith, e)
-get_take (y ∷ xs) (suc k) (suc p) x e = let i = get_take xs k p x e in (omega (arith, i.0), i.1)
-
-pub take_get : {X : Type 0} (xs : List X) (k p : ℕ) (x : X) → p < k → slice_get xs p ≡ Some x → slice_get (take k xs) p ≡ Some x
-take_get [] zero p x less e = cc
-take_get [] (suc k) p x less e = cc
-take_get (y ∷ xs) zero p x less e = absurd (omega arith)
-take_get (y ∷ xs) (suc k) zero x less e = e
-take_get (y ∷ xs) (suc k) (suc p) x less e = take_get xs k p x (omega arith) e
+in_append xs ys x e = list_any-append (nat_eq x) xs ys ∙ or_left (is_in xs x) (is_in ys x) e
 
 -- what is among the first places stands at one of them
 pub in_take_at : (xs : List ℕ) (k x : ℕ) → is_in (take k xs) x ≡ true → (p : ℕ) × (p < k) × (slice_get xs p ≡ Some x)
 in_take_at xs k x e =
     let a = in_at (take k xs) x e in
-    let b = get_take xs k a.0 x a.1 in
+    let b = from_take xs k a.0 x a.1 in
     (a.0, b.0, b.1)
 
 pub at_in_take : (xs : List ℕ) (k p x : ℕ) → p < k → slice_get xs p ≡ Some x → is_in (take k xs) x ≡ true
-at_in_take xs k p x less e = at_in (take k xs) p x (take_get xs k p x less e)
+at_in_take xs k p x less e = at_in (take k xs) p x (in_take xs k p x less e)
 
 pub false_from : (b : Bool) → (b ≡ true → ⊥) → b ≡ false
 false_from true e = absurd (e refl)
@@ -129,9 +101,6 @@ each_push xs x P all here p j at = by (push_cases xs x j p at)
     by (inl e) = all p j e
     by (inr e) = subst P e.1 here
 
-pub false_true : (b : Bool) → b ≡ false → b ≡ true → ⊥
-false_true b e f = cc
-
 -- a test that is not in a list differs from those that are
 differs : (xs : List ℕ) (x p j : ℕ) → is_in xs x ≡ false → slice_get xs p ≡ Some j → j ≡ x → ⊥
 differs xs x p j fresh at same = false_true (is_in xs x) fresh (at_in xs p x (at ∙ ap Some same))
@@ -146,7 +115,7 @@ once_push xs x fresh once p q j at there = by (push_cases xs x j p at) (push_cas
     by (inr e) (inr f) = e.0 ∙ sym f.0
 
 in_push : (xs : List ℕ) (x j : ℕ) → j ≡ x → is_in (xs ++ x ∷ []) j ≡ true
-in_push xs x j same = list_any-append (nat_eq j) xs (x ∷ []) ∙ or_there (is_in xs j) (nat_eq j x || false) (or_here (nat_eq j x) false (eq-eqb j x same))
+in_push xs x j same = list_any-append (nat_eq j) xs (x ∷ []) ∙ or_right (is_in xs j) (nat_eq j x || false) (or_left (nat_eq j x) false (eq-eqb j x same))
 
 -- one more test is taken
 pub kept_push : (counts : List ℕ) (upto : ℕ) (order : List ℕ) (new : List ℕ) (test : ℕ) → test < upto → slice_index new test ≡ 0 → is_in order test ≡ false → ((j : ℕ) → (j ≡ test → ⊥) → slice_index new j ≡ slice_index counts j)
@@ -314,19 +283,13 @@ pub record IsUnderWay (pairs : List (ℕ × ℕ)) (count : ℕ) (counts order : 
   pub counts_are : Counts counts (held (take done order) pairs)
   pub ordered : IsOrdered pairs order
 
-pub contains_from : {X : Type 0} (xs : List X) (x : X) → Contains xs x → (p : ℕ) × (slice_get xs p ≡ Some x)
-contains_from xs x c = contains_at xs x c
-
-pub contains_here : {X : Type 0} (xs : List X) (x : X) (p : ℕ) → slice_get xs p ≡ Some x → Contains xs x
-contains_here xs x p at = (p, slice_get_within xs p x at, get_or_from_slice_get xs p x x at)
-
 pub starts : (pairs : List (ℕ × ℕ)) (count : ℕ) (counts order : List ℕ) → length counts ≡ count → Counts counts (held [] pairs) → IsKept counts (length counts) order → IsUnderWay pairs count counts order 0
 starts pairs count counts order long are k = record {
   long = long;
   kept = subst (λ n. IsKept counts n order) long k;
   upto = omega arith;
   counts_are = are;
-  ordered = λ p i j at c. absurd (no p i j at (contains_from pairs (i, j) c));
+  ordered = λ p i j at c. absurd (no p i j at (contains_at pairs (i, j) c));
 }
   where
     no : (p i j : ℕ) → slice_get order p ≡ Some j → (q : ℕ) × (slice_get pairs q ≡ Some (i, j)) → ⊥
@@ -361,7 +324,7 @@ goes_step pairs count counts order new next done test u less is s = record {
   kept = kept;
   upto = omega (arith, less, goes_long order next s.goes_on);
   counts_are = λ j small. counts_are j (omega (arith, small, s.long, u.long));
-  ordered = λ p i j at c. ordered p i j at (contains_from pairs (i, j) c) c;
+  ordered = λ p i j at c. ordered p i j at (contains_at pairs (i, j) c) c;
 }
   where
     kept : IsKept new count next
@@ -378,7 +341,7 @@ goes_step pairs count counts order new next done test u less is s = record {
         here ∙ ap (λ l. held l pairs j) (sym front)
 
     at_old : (p j : ℕ) → p < length order → slice_get next p ≡ Some j → slice_get order p ≡ Some j
-    at_old p j below at = ap (λ l. slice_get l p) (sym s.goes_on) ∙ take_get next (length order) p j below at
+    at_old p j below at = ap (λ l. slice_get l p) (sym s.goes_on) ∙ in_take next (length order) p j below at
 
     ordered : (p i j : ℕ) → slice_get next p ≡ Some j → (q : ℕ) × (slice_get pairs q ≡ Some (i, j)) → Contains pairs (i, j) → is_in (take p next) i ≡ true
     ordered p i j at c has = by (cases_lt p (length order))
@@ -405,7 +368,7 @@ all_taken pairs count counts order done u past = record {
     stuck j small fresh =
         let are : slice_index counts j ≡ held order pairs j = u.counts_are j (omega (arith, small, u.long)) ∙ ap (λ l. held l pairs j) whole in
         let k = some_left order pairs j (λ z. false_true (is_in order j) fresh (u.kept.zero_taken j small (are ∙ z))) in
-        (k.0, contains_here pairs (k.0, j) k.1 k.2, k.3)
+        (k.0, contains_from pairs (k.0, j) k.1 k.2, k.3)
 
 -- at most `count` tests are taken
 pub few_taken : (pairs : List (ℕ × ℕ)) (count : ℕ) (counts order : List ℕ) (done : ℕ) → IsUnderWay pairs count counts order done → length order ≤ count
@@ -489,7 +452,7 @@ marked_more gone order i count within before = (length-set gone test true ∙ be
     by : (k : ℕ) → k < length gone → (k ≡ test) ⊎ (k ≡ test → ⊥) → slice_index_or (slice_set gone test true) k false ≡ is_in (take (i + 1) order) k
     by k less (inl same) =
         get_or-set_at gone test k true false same (omega (arith, less, same))
-        ∙ sym (more k ∙ or_there (is_in (take i order) k) (nat_eq k test || false) (or_here (nat_eq k test) false (eq-eqb k test same)))
+        ∙ sym (more k ∙ or_right (is_in (take i order) k) (nat_eq k test || false) (or_left (nat_eq k test) false (eq-eqb k test same)))
     by k less (inr apart) =
         get_or-set_other gone test k true false apart ∙ before.1 k less
         ∙ sym (more k ∙ ap (λ b. is_in (take i order) k || (b || false)) (ne_eqb k test apart) ∙ or_false_right (is_in (take i order) k))

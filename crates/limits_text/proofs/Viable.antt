@@ -17,6 +17,7 @@ use Rattle.limits_text.proofs.WordFacts.{word_at, one_word, zero_word, title_wor
 use Rattle.limits_text.proofs.Fresh.{fresh_test}
 use Rattle.limits_text.proofs.Complete.{IsRead, Read, text_read, viable_read}
 use Rattle.limits_text.proofs.Sound.{StateIs, Holds, read_valid, no_more_items, text_of}
+use Rattle.common_lemmas.proofs.Options.{never_both}
 
 -- words with which a text is whole
 record Completes (form : Bool) (done : List Item) (part : Part) : Type 0 where
@@ -136,12 +137,9 @@ read_viable ws s few e =
     let runs : run (Some start) (ws ++ c.more) ≡ Some c.end = run-append step (Some start) ws c.more ∙ ap (λ o. run o c.more) e ∙ c.runs in
     (c.more, (c.end.form, c.items, read_text (ws ++ c.more) c.end c.items runs c.whole))
 
-pub none_some : {X : Type 0} (o : Option X) (s : X) → o ≡ None → o ≡ Some s → ⊥
-none_some o s e f = cc
-
 -- words that the reader doesn't read begin no text
 pub stuck : (ws : List Word) → run (Some start) ws ≡ None → Viable InGrammar ws → ⊥
-stuck ws none v = let r = viable_read ws v in none_some (run (Some start) ws) r.0 none r.1
+stuck ws none v = let r = viable_read ws v in never_both (run (Some start) ws) r.0 none r.1
 
 -- the word at which the reader stops
 pub stops_here : (front : List Word) (w : Word) (s : State) → length front ≤ NUMBER_WORD_MOST → run (Some start) front ≡ Some s → step s w ≡ None → Stops InGrammar front w
@@ -156,7 +154,7 @@ closed_state form s items o e r = is (rw e at r)
 -- words that are read, but not to an end, are no text
 pub no_text : (ws : List Word) (s : State) → run (Some start) ws ≡ Some s → closed s ≡ None → InGrammar ws → ⊥
 no_text ws s e open_end g =
-    none_some (closed s) g.1 open_end (ap whole_of (closed_state g.0 s g.1 (run (Some start) ws) e (text_read g.0 g.1 ws g.2)) ∙ ap (λ b. whole_if b g.1) g.2.wires)
+    never_both (closed s) g.1 open_end (ap whole_of (closed_state g.0 s g.1 (run (Some start) ws) e (text_read g.0 g.1 ws g.2)) ∙ ap (λ b. whole_if b g.1) g.2.wires)
 
 -- the text that ends too early
 pub ends_here : (ws : List Word) (s : State) → length ws ≤ NUMBER_WORD_MOST → run (Some start) ws ≡ Some s → closed s ≡ None → EndsEarly InGrammar ws

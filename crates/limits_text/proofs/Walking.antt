@@ -12,7 +12,9 @@ use Rattle.soc_model.proofs.Places.{slice_get-from_position}
 use Rattle.plan_model.proofs.Finding.{none_passes}
 use Rattle.limits_text.specs.Orders.{is_in, least_before, Counts, ComesAgain}
 use Rattle.limits_text.proofs.SoundText.{push_cases}
-use Rattle.limits_text.proofs.Taking.{each_push, once_push, few, in_at, false_from, false_true}
+use Rattle.limits_text.proofs.Taking.{each_push, once_push, few, in_at, false_from}
+use Rattle.common_lemmas.proofs.Lists.{at_left}
+use Rattle.common_lemmas.proofs.Tests.{false_true}
 
 -- ---- the least test before each
 
@@ -162,11 +164,6 @@ pub at_end : (xs : List ℕ) (y : ℕ) → slice_get (xs ++ y ∷ []) (length xs
 at_end [] y = refl
 at_end (z ∷ xs) y = at_end xs y
 
-pub at_front : (xs ys : List ℕ) (p x : ℕ) → slice_get xs p ≡ Some x → slice_get (xs ++ ys) p ≡ Some x
-at_front [] ys p x e = cc
-at_front (z ∷ xs) ys zero x e = e
-at_front (z ∷ xs) ys (suc p) x e = at_front xs ys p x e
-
 -- a place before the end of a longer list
 pub from_front : (xs : List ℕ) (y p x : ℕ) → p < length xs → slice_get (xs ++ y ∷ []) p ≡ Some x → slice_get xs p ≡ Some x
 from_front [] y p x less e = absurd (omega (arith, less))
@@ -207,7 +204,7 @@ walk_ends next start walk test meets w found = record {
   last = length walk;
   long = length-append walk (test ∷ []);
   before_last = slice_get_within walk meets test at;
-  again = at_front walk (test ∷ []) meets test at ∙ sym (at_end walk test);
+  again = at_left walk (test ∷ []) meets test at ∙ sym (at_end walk test);
   begins = w.begins;
   goes = w.goes;
   differ = λ p q x less below e f. w.once p q x (from_front walk test p x less e) (from_front walk test q x below f);
@@ -232,4 +229,4 @@ back_more walk circle new back x before pushed at = (ap length pushed ∙ length
         ap (λ (l : List ℕ). slice_get l k) pushed ∙ ap (slice_get (circle ++ x ∷ [])) (same ∙ sym before.0) ∙ at_end circle x ∙ sym at ∙ ap (λ n. slice_get walk (length walk - 1 - n)) (sym same)
     by k less (inr apart) =
         let front : slice_get circle k ≡ Some (get_or circle k 0) = slice_get-get_or circle k 0 (omega (arith, less, apart, before.0)) in
-        ap (λ (l : List ℕ). slice_get l k) pushed ∙ at_front circle (x ∷ []) k (get_or circle k 0) front ∙ sym front ∙ before.1 k (omega (arith, less, apart))
+        ap (λ (l : List ℕ). slice_get l k) pushed ∙ at_left circle (x ∷ []) k (get_or circle k 0) front ∙ sym front ∙ before.1 k (omega (arith, less, apart))

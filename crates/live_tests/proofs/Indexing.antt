@@ -14,12 +14,9 @@ use Rattle.soc_model.specs.Chips.{ModuleValue, SocValue, is_live, live_of, live_
 use Rattle.plan_model.specs.Rules.{live_ids}
 use Rattle.plan_model.proofs.CertificatesAreBounds.{same_test_is, is_same_test}
 use Rattle.live_tests.specs.Names.{names_in, both_places, places_of}
+use Rattle.common_lemmas.proofs.Lists.{map_twice}
 
 -- ---- the names, module by module
-
-map_twice : {X Y Z : Type 0} (f : Y → Z) (g : X → Y) (xs : List X) → map f (map g xs) ≡ map (λ x. f (g x)) xs
-map_twice f g [] = refl
-map_twice f g (x ∷ xs) = ap (λ ys. f (g x) ∷ ys) (map_twice f g xs)
 
 names_from : (base : ℕ) (ms : List ModuleValue) → flat_map names_in ms ≡ map id_of (live_from base ms)
 unfolding live_from

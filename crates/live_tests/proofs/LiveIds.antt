@@ -11,9 +11,10 @@ use Rattle.soc_model.specs.declared.TestId.{TestId}
 use Rattle.soc_model.specs.Chips.{ModuleValue, SocValue, LiveTest, is_live, live_of, live_from, id_of}
 use Rattle.soc_model.specs.SoundChips.{IsSoundChip, IsSoundModule}
 use Rattle.plan_model.specs.Rules.{live_ids}
-use Rattle.plan_model.proofs.Lists.{from_append, from_map, from_filter, at_contains}
+use Rattle.plan_model.proofs.Lists.{from_append, from_filter, at_contains}
 use Rattle.plan_model.proofs.PlannedTests.{IsLive, live_at}
 use Rattle.live_tests.specs.Names.{AllDiffer}
+use Rattle.common_lemmas.proofs.Lists.{from_map}
 
 -- ---- lists whose items differ
 

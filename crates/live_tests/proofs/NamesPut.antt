@@ -8,8 +8,8 @@ use Rattle.indexmap.specs.IndexSet.{insert_key}
 use Rattle.soc_model.specs.declared.TestId.{TestId}
 use Rattle.soc_model.specs.Chips.{same_test}
 use Rattle.plan_model.proofs.CertificatesAreBounds.{same_test_is}
-use Rattle.plan_model.proofs.Lists.{any_at}
 use Rattle.live_tests.specs.Names.{AllDiffer}
+use Rattle.common_lemmas.proofs.Lists.{any_at}
 
 slice_get-take : {X : Type 0} (xs : List X) (k p : ℕ) → p < k → slice_get (take k xs) p ≡ slice_get xs p
 slice_get-take [] zero p less = refl

@@ -6,16 +6,16 @@ use Rattle.std.proofs.lemmas.Bool.{cases_Bool, leb-true}
 use Rattle.std.proofs.lemmas.Bool.Decides.{nat_tests}
 use Rattle.std.proofs.lemmas.List.{length-map, map-append}
 use Rattle.std.proofs.lemmas.List.Folds.{find_at}
-use Rattle.std.proofs.lemmas.Option.{slice_get-map, slice_get-get_or, slice_get_within, get_or_from_slice_get}
+use Rattle.std.proofs.lemmas.Option.{slice_get-map, slice_get-get_or, slice_get_within, get_or_from_slice_get, slice_get_past, cond_some}
 use Rattle.soc_model.specs.declared.Test.{Test}
 use Rattle.soc_model.specs.declared.TestId.{TestId}
 use Rattle.soc_model.specs.Chips.{ModuleValue, SocValue, LiveTest, is_live, live_of, live_from, live_tests, id_of, same_test}
 use Rattle.plan_model.specs.Plans.{PlanValue, LimitsValue, PlannedTest, planned, planned_test, chains_of, operations_of, end_of, greatest, bus_place, of_first, wraps}
 use Rattle.plan_model.specs.Rules.{Each, IsGood, HasWrapper, Cycles, live_ids, used_pairs}
 use Rattle.plan_model.specs.Operations.{ops_of}
-use Rattle.plan_model.proofs.Finding.{in_filter, none_passes}
+use Rattle.plan_model.proofs.Finding.{none_passes}
 use Rattle.plan_model.proofs.Greatest.{le-greatest_at}
-use Rattle.plan_model.proofs.Lists.{in_append_left, in_append_right}
+use Rattle.plan_model.proofs.Lists.{in_append_right}
 use Rattle.plan_model.proofs.SoundChips.{tam_work-le}
 use Rattle.plan_model.proofs.PlannedTests.{Origin, Wrapped, wrapped_by, wraps_from}
 use Rattle.soc_model.specs.Lookups.{test_places}
@@ -28,6 +28,8 @@ use Rattle.live_tests.specs.Placed.{bus_over, is_called, placed_in, placed_of, p
 use Rattle.live_tests.specs.declared.wrapped.ModeWrapper.{ModeWrapper}
 use Rattle.live_tests.specs.declared.wrapped.ModeWrappers.{ModeWrappers}
 use Rattle.live_tests.specs.Wrapped.{AreModeWrappers, IsModeWrapper, IsWrappedTest}
+use Rattle.common_lemmas.proofs.Options.{cond_none}
+use Rattle.common_lemmas.proofs.Lists.{drop_at, map_twice, at_left, in_filter}
 
 -- ---- live tests of a chip
 
@@ -41,7 +43,7 @@ in_live [] base up n place m t e at there = absurd cc
 in_live (k ∷ ms) base zero n place m t e at there =
     let same : k ≡ m = cc in
     let number : base ≡ place = omega (arith, e) in
-    (n, in_append_left (live_of base k) (live_from (base + 1) ms) n (the_live place m t) (rw (same, number) (slice_get-map (the_live place m) (filter is_live m.tests) n ∙ rw there refl)))
+    (n, at_left (live_of base k) (live_from (base + 1) ms) n (the_live place m t) (rw (same, number) (slice_get-map (the_live place m) (filter is_live m.tests) n ∙ rw there refl)))
 in_live (k ∷ ms) base (suc up) n place m t e at there =
     let r = in_live ms (base + 1) up n place m t (omega (arith, e)) at there in
     in_append_right (live_of base k) (live_from (base + 1) ms) r.0 (the_live place m t) r.1
@@ -144,15 +146,6 @@ test_is plan place m t bus start n over bus_is over_is is long =
 
 -- ---- module by module
 
-map_twice : {X Y Z : Type 0} (f : Y → Z) (g : X → Y) (xs : List X) → map f (map g xs) ≡ map (λ x. f (g x)) xs
-map_twice f g [] = refl
-map_twice f g (x ∷ xs) = ap (λ ys. f (g x) ∷ ys) (map_twice f g xs)
-
-drop_at : {X : Type 0} (xs : List X) (k : ℕ) (x : X) → slice_get xs k ≡ Some x → drop k xs ≡ x ∷ drop (suc k) xs
-drop_at [] k x at = absurd cc
-drop_at (y ∷ xs) zero x at = let same : y ≡ x = cc in ap (λ (z : _). z ∷ xs) same
-drop_at (y ∷ xs) (suc k) x at = drop_at xs k x at
-
 drop_past : {X : Type 0} (xs : List X) (k : ℕ) → length xs ≤ k → drop k xs ≡ []
 drop_past [] zero past = refl
 drop_past [] (suc k) past = refl
@@ -212,14 +205,6 @@ first_named : (id : TestId) (ts : List PlacedTest) → position_or_len (same_tes
 first_named id [] = refl
 first_named id (t ∷ ts) = elim (cases_Bool (same_test id t.id)) [ inl yes' ↦ rw yes' refl | inr no' ↦ rw no' (ap (λ n. 1 + n) (first_named id ts)) ]
 
-cond_none : {X : Type 0} (b : Bool) (x : X) → cond b (Some x) None ≡ None → b ≡ false
-cond_none true x e = cc
-cond_none false x e = refl
-
-cond_some : {X : Type 0} (b : Bool) (x y : X) → cond b (Some x) None ≡ Some y → (b ≡ true) × (x ≡ y)
-cond_some true x y e = (refl, cc)
-cond_some false x y e = absurd cc
-
 -- a name's place finds the test
 pub found_at : (id : TestId) (ts : List PlacedTest) (names : List TestId) (k : ℕ) (d t : PlacedTest) → names ≡ map (λ (p : PlacedTest). p.id) ts → position (same_test id) names ≡ Some k → t ≡ get_or ts k d → (k < length ts) × (find (is_called id) ts ≡ Some t)
 found_at id ts names k d t are found is =
@@ -230,11 +215,6 @@ found_at id ts names k d t are found is =
     let within : k < length ts = omega (arith, less, p.1, long) in
     (within, find_at (is_called id) ts ∙ ap (slice_get ts) first ∙ slice_get-get_or ts k d within ∙ ap Some (sym is))
 
-past_none : {X : Type 0} (xs : List X) (k : ℕ) → length xs ≤ k → slice_get xs k ≡ None
-past_none [] k past = refl
-past_none (x ∷ xs) zero past = absurd (omega (arith, past))
-past_none (x ∷ xs) (suc k) past = past_none xs k (omega (arith, past))
-
 -- where no name has a place, no test is found
 pub none_found : (id : TestId) (ts : List PlacedTest) (names : List TestId) → names ≡ map (λ (p : PlacedTest). p.id) ts → position (same_test id) names ≡ None → find (is_called id) ts ≡ None
 none_found id ts names are none =
@@ -242,4 +222,4 @@ none_found id ts names are none =
     let first : position_or_len (is_called id) ts ≡ position_or_len (same_test id) names = sym (first_named id ts) ∙ ap (position_or_len (same_test id)) (sym are) in
     let long : length names ≡ length ts = ap length are ∙ length_names ts in
     let over : length names ≤ position_or_len (same_test id) names = grind (arith, nat_tests) in
-    find_at (is_called id) ts ∙ past_none ts (position_or_len (is_called id) ts) (omega (arith, over, first, long))
+    find_at (is_called id) ts ∙ slice_get_past ts (position_or_len (is_called id) ts) (omega (arith, over, first, long))

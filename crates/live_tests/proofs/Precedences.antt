@@ -8,11 +8,10 @@ use Rattle.soc_model.specs.declared.TestId.{TestId}
 use Rattle.soc_model.specs.Chips.{same_test}
 use Rattle.plan_model.proofs.CertificatesAreBounds.{same_test_is, is_same_test}
 use Rattle.plan_model.proofs.Finding.{none_passes}
-use Rattle.plan_model.proofs.Lists.{contains_at, at_contains, from_flat_map}
+use Rattle.plan_model.proofs.Lists.{at_contains, from_flat_map}
 use Rattle.live_tests.specs.Names.{both_places, places_of}
-
-some_is : {X : Type 0} (x y : X) → Some x ≡ Some y → x ≡ y
-some_is x y e = cc
+use Rattle.common_lemmas.proofs.Options.{some_same}
+use Rattle.common_lemmas.proofs.Lists.{contains_at}
 
 -- ---- places
 
@@ -59,7 +58,7 @@ pairs_within ids (p ∷ before) =
 pub pair_there : (ids : List TestId) (before : List (TestId × TestId)) (k i j : ℕ) (a b : TestId) → slice_get before k ≡ Some (a, b) → place_among ids a ≡ Some i → place_among ids b ≡ Some j → Contains (flat_map (places_of ids) before) (i, j)
 pair_there ids [] k i j a b at e f = cc
 pair_there ids (p ∷ before) zero i j a b at e f =
-    let same = some_is p (a, b) at in
+    let same = some_same p (a, b) at in
     Contains-append_left (places_of ids p) (flat_map (places_of ids) before) (i, j)
     (subst (λ (q : TestId × TestId). Contains (places_of ids q) (i, j)) (sym same) (rw (e, f) (at_contains ((i, j) ∷ []) 0 (i, j) refl)))
 pair_there ids (p ∷ before) (suc k) i j a b at e f = Contains-append_right (places_of ids p) (flat_map (places_of ids) before) (i, j) (pair_there ids before k i j a b at e f)
@@ -75,7 +74,7 @@ pub record StandsFor (ids : List TestId) (before : List (TestId × TestId)) (i j
   pub second_place : place_among ids second ≡ Some j
 
 pair_of : (a b : Option ℕ) (i j k : ℕ) → slice_get (both_places a b) k ≡ Some (i, j) → (a ≡ Some i) × (b ≡ Some j)
-pair_of (Some m) (Some n) i j zero e = let same : (m, n) ≡ (i, j) = some_is {X = ℕ × ℕ} (m, n) (i, j) e in (ap Some (ap (λ (p : ℕ × ℕ). p.0) same), ap Some (ap (λ (p : ℕ × ℕ). p.1) same))
+pair_of (Some m) (Some n) i j zero e = let same : (m, n) ≡ (i, j) = some_same {X = ℕ × ℕ} (m, n) (i, j) e in (ap Some (ap (λ (p : ℕ × ℕ). p.0) same), ap Some (ap (λ (p : ℕ × ℕ). p.1) same))
 pair_of (Some m) (Some n) i j (suc k) e = cc
 pair_of None b i j k e = cc
 pair_of (Some m) None i j k e = cc

@@ -9,11 +9,6 @@ use Rattle.soc_model.specs.Chips.{SocValue, IsParent, parent_place}
 use Rattle.soc_model.proofs.Parents.{IsParent-from_place, place-from_IsParent}
 use Rattle.live_tests.specs.Parents.{HasParentAt, AreParents, AreParentPlaces, below}
 
-pub set_here : {X : Type 0} (xs : List X) (i : ℕ) (y : X) → i < length xs → slice_get (set xs i y) i ≡ Some y
-set_here [] i y h = absurd (omega arith)
-set_here (x ∷ xs) zero y h = refl
-set_here (x ∷ xs) (suc i) y h = set_here xs i y (omega arith)
-
 pub set_else : {X : Type 0} (xs : List X) (i j : ℕ) (y : X) → (j ≡ i → ⊥) → slice_get (set xs i y) j ≡ slice_get xs j
 set_else [] i j y h = refl
 set_else (x ∷ xs) zero zero y h = absurd (h refl)

@@ -12,6 +12,7 @@ use Rattle.bit_machine.specs.Paths.{made_from}
 use Rattle.made_data.specs.DataText.{bit_byte, bits_word}
 use Rattle.made_data.specs.Entries.{data_bit}
 use Rattle.made_data.specs.Parts.{made_byte, made_bits}
+use Rattle.common_lemmas.proofs.Ranges.{range_split}
 
 pub value_next : (l : Line) (n v w : ℕ) → v ≡ line_value l n → w ≡ (v + l.step) % 997 → w ≡ line_value l (n + 1)
 value_next l n v w at next =
@@ -31,17 +32,6 @@ byte_more f old now new from n done byte inside stored is so_far =
     let place : from + (done + 1) ≡ from + done + 1 = omega arith in
     ap (λ k. take k new) place ∙ ap (take (from + done + 1)) stored ∙ take_more_set now (from + done) byte inside ∙ ap (λ b. take (from + done) now ++ b ∷ []) is ∙ ap (λ t. t ++ f (n + done) ∷ []) so_far
     ∙ append_assoc (take from old) (map f (range_with_len n done)) (f (n + done) ∷ []) ∙ ap (λ t. take from old ++ t) (sym (map-range_with_len_more f n done (n + done) refl))
-
--- ranges one after another
-pub range_split : (a n m : ℕ) → range_with_len a (n + m) ≡ range_with_len a n ++ range_with_len (a + n) m
-range_split a zero m =
-    let e : 0 + m ≡ m = omega arith in
-    let f : a + 0 ≡ a = omega arith in
-    rw (e, f) refl
-range_split a (suc n) m =
-    let e : suc n + m ≡ suc (n + m) = omega arith in
-    let f : a + 1 + n ≡ a + suc n = omega arith in
-    rw e (ap (λ v. a ∷ v) (range_split (a + 1) n m ∙ rw f refl))
 
 pub map_split : (f : ℕ → ℕ) (n m : ℕ) → map f (range_with_len 0 n) ++ map f (range_with_len n m) ≡ map f (range_with_len 0 (n + m))
 map_split f n m =

@@ -2,7 +2,7 @@
 use Rattle.std.proofs.Common.{◌≡◌, ◌⊎◌, inl, inr, ℕ, suc, Bool, true, false, not, ◌&&◌, ◌||◌, List, [], ◌∷◌, ◌++◌, map, nat_eq, Some, None, Option, option_map, is_some, refl, sym, ◌∙◌, ap, subst, arith, append_assoc, eq-eqb}
 use Rattle.std.specs.Prelude.{slice_get, find}
 use Rattle.std.specs.List.{filter, flat_map}
-use Rattle.std.proofs.lemmas.Bool.{cases_Bool, eqb-true, ne_eqb}
+use Rattle.std.proofs.lemmas.Bool.{cases_Bool, eqb-true, ne_eqb, or_parts}
 use Rattle.std.proofs.lemmas.List.Folds.{list_any-append}
 use Rattle.std.proofs.lemmas.Option.{slice_get-map}
 use Rattle.soc_model.specs.declared.Test.{Test}
@@ -12,6 +12,7 @@ use Rattle.soc_model.specs.Modes.{is_tam}
 use Rattle.soc_model.specs.SoundChips.{AllDiffer}
 use Rattle.test_data.specs.Suiting.{name_in, tam_names_in, has_name, misnamed_after, wanted_by}
 use Rattle.test_data.proofs.SuitedData.{id_itself}
+use Rattle.common_lemmas.proofs.Tests.{eq_turned}
 
 -- each name has none of its kind behind it
 pub AreNew : List TestId → Type 0
@@ -23,24 +24,11 @@ pub AreAbsent : (before ids : List TestId) → Type 0
 AreAbsent before [] = Unit {0}
 AreAbsent before (id ∷ ids) = (has_name before id ≡ false) × AreAbsent before ids
 
-or_false : (a b : Bool) → (a || b) ≡ false → (a ≡ false) × (b ≡ false)
-or_false true b e = absurd cc
-or_false false b e = (refl, e)
-
 both_false : (a b : Bool) → a ≡ false → b ≡ false → (a || b) ≡ false
 both_false a b e f = rw (e, f) refl
 
-swapped_eq : (a b : ℕ) → nat_eq a b ≡ nat_eq b a
-swapped_eq a b = by (cases_Bool (nat_eq a b)) (cases_Bool (nat_eq b a))
-  where
-    by : (nat_eq a b ≡ true) ⊎ (nat_eq a b ≡ false) → (nat_eq b a ≡ true) ⊎ (nat_eq b a ≡ false) → nat_eq a b ≡ nat_eq b a
-    by (inl x) (inl y) = x ∙ sym y
-    by (inl x) (inr y) = let same : a ≡ b = eqb-true a b x in let other : nat_eq b a ≡ true = eq-eqb b a (sym same) in absurd (let wrong : true ≡ false = sym other ∙ y in cc)
-    by (inr x) (inl y) = let same : b ≡ a = eqb-true b a y in let other : nat_eq a b ≡ true = eq-eqb a b (sym same) in absurd (let wrong : true ≡ false = sym other ∙ x in cc)
-    by (inr x) (inr y) = x ∙ sym y
-
 swapped : (a b : TestId) → same_test a b ≡ same_test b a
-swapped a b = rw (swapped_eq a.«module» b.«module», swapped_eq a.test b.test) refl
+swapped a b = rw (eq_turned a.«module» b.«module», eq_turned a.test b.test) refl
 
 -- ---- no name twice is no misnaming
 
@@ -48,7 +36,7 @@ absent_more : (before ids : List TestId) (id : TestId) → AreAbsent before ids 
 unfolding AreAbsent
 absent_more before [] id absent new = tt
 absent_more before (x ∷ xs) id absent new =
-    let parts = or_false (same_test id x) (has_name xs id) new in
+    let parts = or_parts (same_test id x) (has_name xs id) new in
     let here : has_name (before ++ id ∷ []) x ≡ false = list_any-append (same_test x) before (id ∷ []) ∙ both_false (has_name before x) (same_test x id || false) absent.0 (both_false (same_test x id) false (swapped x id ∙ parts.0) refl) in
     (here, absent_more before xs id absent.1 parts.1)
 

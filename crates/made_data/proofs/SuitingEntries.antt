@@ -15,7 +15,7 @@ use Rattle.soc_model.specs.SoundChips.{IsSoundChip, IsSoundModule}
 use Rattle.soc_model.proofs.Places.{IsKeyed-from_sound, module-unique}
 use Rattle.plan_model.specs.Cells.{Cell, stimulus_cells, response_cells}
 use Rattle.plan_model.specs.Runs.{Content}
-use Rattle.plan_model.proofs.Lists.{from_map, from_flat_map, from_filter, in_flat_map, in_append_right}
+use Rattle.plan_model.proofs.Lists.{from_flat_map, from_filter, in_flat_map, in_append_right}
 use Rattle.test_data.specs.declared.DataBit.{DataBit}
 use Rattle.test_data.specs.declared.Misfit.{Misfit}
 use Rattle.test_data.specs.DataWords.{PatternValue, EntryValue}
@@ -25,6 +25,7 @@ use Rattle.test_data.proofs.SuitedData.{suits, wanted_is}
 use Rattle.made_data.specs.Entries.{data_bit, pattern_of, entry_of, entries_in, entries_of}
 use Rattle.made_data.proofs.Names.{AreNew, named_right, none_before, none_missing, names_new}
 use Rattle.made_data.proofs.ReadBack.{IsSmallName, AreSmallNames}
+use Rattle.common_lemmas.proofs.Lists.{from_map}
 
 -- ---- each entry is a test's
 

@@ -14,13 +14,14 @@ use Rattle.soc_model.specs.SoundChips.{IsSoundChip}
 use Rattle.plan_model.specs.Bounds.{is_of}
 use Rattle.plan_model.proofs.SoundChips.{module_size-le}
 use Rattle.bound_rules.specs.Sizes.{sizes_of, work_by, works_by}
-use Rattle.bound_rules.proofs.Modules.{the_live, only_module, same_sum, work_by_sizes}
+use Rattle.bound_rules.proofs.Modules.{the_live, only_module, work_by_sizes}
 use Rattle.bound_rules.proofs.SoundWork.{module_work-le}
 use Rattle.packed_times.specs.declared.table.ModuleTimes.{ModuleTimes}
 use Rattle.packed_times.specs.Packed.{packed, packed_time, packed_tam_time, self_test_time}
 use Rattle.packed_times.specs.Times.{is_self, tam_times_of, self_times_of, works_of, IsPackingOf}
 use Rattle.packed_times.specs.Tables.{TableValue, RowValue, row_value, row_of, IsTable, IsNextChange, HasChanges}
 use Rattle.packed_times.proofs.TestTimes.{tam_times-le, self_times-le}
+use Rattle.common_lemmas.proofs.Lists.{sums_agree}
 
 -- ---- sums over the live tests of one module
 
@@ -31,7 +32,7 @@ elsewhere p l n false other = refl
 pub tam_time_is : (soc : SocValue) (w p : ℕ) (m : ModuleValue) → slice_get soc.modules p ≡ Some m → packed_tam_time soc p w ≡ tam_times_of m w m.tests
 tam_time_is soc w p m at =
     only_module (λ l. if l.test.tam && is_of p l then packed_time l.core l.test w else 0) soc p m (λ l other. elsewhere p l (packed_time l.core l.test w) l.test.tam other) at
-    ∙ same_sum (λ t. if is_live t then (if t.tam && is_of p (the_live p m t) then packed_time m t w else 0) else 0) (λ t. if is_tam t then packed_time m t w else 0) m.tests (λ t. each t (is_live t) t.tam)
+    ∙ sums_agree (λ t. if is_live t then (if t.tam && is_of p (the_live p m t) then packed_time m t w else 0) else 0) (λ t. if is_tam t then packed_time m t w else 0) m.tests (λ t. each t (is_live t) t.tam)
   where
     each : (t : Test) (live tam : Bool) → (if live then (if tam && nat_eq p p then packed_time m t w else 0) else 0) ≡ (if live && tam then packed_time m t w else 0)
     each t false tam = refl
@@ -41,7 +42,7 @@ tam_time_is soc w p m at =
 pub self_time_is : (soc : SocValue) (p : ℕ) (m : ModuleValue) → slice_get soc.modules p ≡ Some m → self_test_time soc p ≡ self_times_of m.tests
 self_time_is soc p m at =
     only_module (λ l. if not l.test.tam && is_of p l then l.test.patterns else 0) soc p m (λ l other. elsewhere p l l.test.patterns (not l.test.tam) other) at
-    ∙ same_sum (λ t. if is_live t then (if not t.tam && is_of p (the_live p m t) then t.patterns else 0) else 0) (λ t. if is_self t then t.patterns else 0) m.tests (λ t. each t (is_live t) t.tam)
+    ∙ sums_agree (λ t. if is_live t then (if not t.tam && is_of p (the_live p m t) then t.patterns else 0) else 0) (λ t. if is_self t then t.patterns else 0) m.tests (λ t. each t (is_live t) t.tam)
   where
     each : (t : Test) (live tam : Bool) → (if live then (if not tam && nat_eq p p then t.patterns else 0) else 0) ≡ (if live && not tam then t.patterns else 0)
     each t false tam = refl
@@ -50,7 +51,7 @@ self_time_is soc p m at =
 
 pub works-le : (soc : SocValue) → IsSoundChip soc → (p : ℕ) (m : ModuleValue) → slice_get soc.modules p ≡ Some m → works_of m m.tests ≤ 10 ^ 18
 works-le soc sound p m at =
-    let same : works_of m m.tests ≡ works_by (sizes_of m) m.tests = same_sum (λ t. if is_live t then test_work m t else 0) (λ t. if is_live t then work_by (sizes_of m) t else 0) m.tests (λ t. each t (is_live t)) in
+    let same : works_of m m.tests ≡ works_by (sizes_of m) m.tests = sums_agree (λ t. if is_live t then test_work m t else 0) (λ t. if is_live t then work_by (sizes_of m) t else 0) m.tests (λ t. each t (is_live t)) in
     omega (arith, module_work-le soc sound p m at)
   where
     each : (t : Test) (live : Bool) → (if live then test_work m t else 0) ≡ (if live then work_by (sizes_of m) t else 0)

@@ -7,7 +7,6 @@ use Rattle.std.proofs.lemmas.List.{append_assoc, length_push, get_or_at, length-
 use Rattle.std.proofs.lemmas.List.Sums.{sum_by-cons, sum_by-append}
 use Rattle.std.proofs.lemmas.List.Sorted.{sum_by-IsPermutation}
 use Rattle.soc_model.specs.Chips.{ModuleValue}
-use Rattle.soc_model.proofs.Sums.{sum_by-map}
 use Rattle.plan_model.specs.Cells.{Cell, ChainValue, dealt, scan_lengths, chain_cells, IsProper}
 use Rattle.plan_model.specs.Plans.{greatest}
 use Rattle.plan_model.proofs.LowerTimes.{Counts, count_cells}
@@ -18,6 +17,7 @@ use Rattle.packed_times.proofs.Crowds.{second, held, beyond}
 use Rattle.packed_times.proofs.Counting.{Boxed, counting-boxed}
 use Rattle.packed_times.proofs.Averages.{averaging-boxed}
 use Rattle.packed_times.proofs.Beside.{beside-boxed}
+use Rattle.common_lemmas.proofs.Lists.{sum_map}
 
 -- the scan chains of wrapper chains: each by the place of its wrapper chain and by its length
 boxed : List ℕ → ℕ → List ChainValue → List (ℕ × ℕ)
@@ -85,7 +85,7 @@ none-beyond lengths n j (c ∷ cs) few =
     omega (arith, within-own lengths n j c.scans (omega arith), none-beyond lengths n (suc j) cs (omega arith))
 
 sum_by-own : (lengths : List ℕ) (f : ℕ → ℕ) (j : ℕ) (xs : List ℕ) → sum_by (λ (p : ℕ × ℕ). f p.1) (map (λ x. (j, slice_index lengths x)) xs) ≡ sum_by (λ x. f (slice_index lengths x)) xs
-sum_by-own lengths f j xs = sum_by-map (λ (p : ℕ × ℕ). f p.1) (λ x. (j, slice_index lengths x)) xs
+sum_by-own lengths f j xs = sum_map (λ (p : ℕ × ℕ). f p.1) (λ x. (j, slice_index lengths x)) xs
 
 sum_by-boxed : (lengths : List ℕ) (f : ℕ → ℕ) (j : ℕ) (cs : List ChainValue) → sum_by (λ (p : ℕ × ℕ). f p.1) (boxed lengths j cs) ≡ sum_by (λ x. f (slice_index lengths x)) (flat_map (λ (c : ChainValue). c.scans) cs)
 unfolding boxed
@@ -110,7 +110,7 @@ sum_places_by f front (x ∷ rest) =
 
 same_lengths : (m : ModuleValue) (scan : Bool) (chains : List ChainValue) → IsProper m scan chains → (f : ℕ → ℕ) → sum_by f (map second (boxed (scan_lengths m scan) 0 chains)) ≡ sum_by f (scan_lengths m scan)
 same_lengths m scan chains proper f =
-    sum_by-map f second (boxed (scan_lengths m scan) 0 chains) ∙ sum_by-boxed (scan_lengths m scan) f 0 chains
+    sum_map f second (boxed (scan_lengths m scan) 0 chains) ∙ sum_by-boxed (scan_lengths m scan) f 0 chains
     ∙ sum_by-IsPermutation (λ x. f (slice_index (scan_lengths m scan) x)) (range_with_len 0 (length (scan_lengths m scan))) (flat_map (λ (c : ChainValue). c.scans) chains) proper.scans
     ∙ sum_places_by f [] (scan_lengths m scan)
 

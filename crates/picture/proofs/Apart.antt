@@ -11,7 +11,6 @@ use Rattle.soc_model.specs.Chips.{SocValue}
 use Rattle.plan_model.specs.Plans.{PlanValue, LimitsValue, PlannedTest, planned, power_at, uses, widths, is_active}
 use Rattle.plan_model.specs.Right.{IsAt}
 use Rattle.plan_model.specs.Rules.{IsGood, Power}
-use Rattle.plan_model.proofs.Lists.{from_map}
 use Rattle.plan_model.proofs.Sums.{at_most_one}
 use Rattle.plan_model.proofs.TestsInGoodPlans.{OnBus, on_bus, apart}
 use Rattle.power_events.specs.Loads.{changes}
@@ -20,6 +19,7 @@ use Rattle.picture.specs.Laws.{AreApart, ShowsUse, StaysWithin}
 use Rattle.picture.specs.PictureText.{plan_steps}
 use Rattle.picture.specs.Rectangles.{bus_wires, covers, drawn_test, over_bus, over_wires, wired, wires_from}
 use Rattle.picture.proofs.AllDrawn.{bus_there}
+use Rattle.common_lemmas.proofs.Lists.{from_map}
 
 -- the wires of a bus
 pub wires_at : (first : ℕ) (ws : List ℕ) (b : ℕ) (r : ℕ × ℕ) → slice_get (wires_from first ws) b ≡ Some r → (r.0 ≡ first + sum (take b ws)) × (r.1 ≡ r.0 + slice_index ws b)

@@ -6,12 +6,10 @@ use Rattle.std.proofs.lemmas.List.{append-nil}
 use Rattle.std.proofs.lemmas.Option.{slice_get_within, get_or_from_slice_get}
 use Rattle.std.proofs.Math.Path.{fun_ext}
 use Rattle.soc_model.specs.Chips.{SocValue}
-use Rattle.soc_model.proofs.Sums.{sum_by-map}
 use Rattle.plan_model.specs.Plans.{PlanValue, LimitsValue, PlannedTest, ProfileValue, planned, end_of, greatest, is_active, power_at, power_of}
 use Rattle.plan_model.specs.Rules.{IsGood, Cycles, Power}
 use Rattle.plan_model.specs.SoundLimits.{IsSoundLimits, IsSoundProfile, Grow}
 use Rattle.plan_model.proofs.Greatest.{le-greatest_at}
-use Rattle.plan_model.proofs.Lists.{from_map}
 use Rattle.plan_model.proofs.Sums.{sum_by-filter}
 use Rattle.live_tests.specs.declared.placed.PlacedTest.{PlacedTest}
 use Rattle.live_tests.specs.Placed.{placed_of, placed_tests}
@@ -24,7 +22,7 @@ use Rattle.picture.specs.Panels.{below, wires_panel}
 use Rattle.picture.specs.PictureText.{bottom_of, frame_text, head_text, inner_text, lanes_of, lanes_text, limit_text, lines_text, load_text, picture_with, plan_steps, power_text, self_tests, wires_text}
 use Rattle.picture.specs.Rectangles.{between, bus_wires, laned, wired}
 use Rattle.picture.specs.Scale.{scale_text}
-use Rattle.picture.proofs.Joining.{behind}
+use Rattle.common_lemmas.proofs.Lists.{joined_before, from_map, sum_map}
 
 -- no test ends after the plan
 pub ends_by : (soc : SocValue) (limits : LimitsValue) (plan : PlanValue) → IsGood soc limits plan → (i : ℕ) (t : PlacedTest) → slice_get (placed_tests soc plan) i ≡ Some t → (t.start ≤ t.end) × (t.end ≤ plan.cycles)
@@ -51,7 +49,7 @@ has_steps soc limits plan sound good i t at = record {
 
 -- what the placed tests draw is what the planned ones draw
 drawn_is : (limits : LimitsValue) (tests : List PlannedTest) (c : ℕ) → drawn_by limits (map placed_of tests) c ≡ power_at limits tests c
-drawn_is limits tests c = sum_by-map (drawn limits c) placed_of tests ∙ sym (sum_by-filter (is_active c) (λ t. power_of limits t (c - t.start)) tests)
+drawn_is limits tests c = sum_map (drawn limits c) placed_of tests ∙ sym (sum_by-filter (is_active c) (λ t. power_of limits t (c - t.start)) tests)
 
 pub drawn_within : (soc : SocValue) (limits : LimitsValue) (plan : PlanValue) → IsGood soc limits plan → (most : ℕ) → limits.power ≡ Some most → (c : ℕ) → drawn_by limits (placed_tests soc plan) c ≤ most
 drawn_within soc limits plan good most limit c =
@@ -92,7 +90,7 @@ inner_is soc limits plan parts power mark cycles end t5 t4 t3 t2 t1 t0 p power_i
     let s' = power_text (below lanes + 24) plan.cycles limits.power (plan_steps soc limits plan) in
     let m' = scale_text plan.cycles bottom in
     let n' = lines_text plan.cycles mark bottom in
-    behind t5 t1 t0 w' (l' ++ (s' ++ (m' ++ n'))) (behind t5 t2 t1 l' (s' ++ (m' ++ n')) (behind t5 t3 t2 s' (m' ++ n') (behind t5 t4 t3 m' n' (e5 ∙ ap (λ v. t4 ++ v) n) (e4 ∙ ap (λ v. t3 ++ v) m)) (e3 ∙ ap (λ v. t2 ++ v) s)) (e2 ∙ ap (λ v. t1 ++ v) l)) (e1 ∙ ap (λ v. t0 ++ v) w)
+    joined_before t5 t1 t0 w' (l' ++ (s' ++ (m' ++ n'))) (joined_before t5 t2 t1 l' (s' ++ (m' ++ n')) (joined_before t5 t3 t2 s' (m' ++ n') (joined_before t5 t4 t3 m' n' (e5 ∙ ap (λ v. t4 ++ v) n) (e4 ∙ ap (λ v. t3 ++ v) m)) (e3 ∙ ap (λ v. t2 ++ v) s)) (e2 ∙ ap (λ v. t1 ++ v) l)) (e1 ∙ ap (λ v. t0 ++ v) w)
 
 -- the frame, what is in it, and the end
 pub picture_is : (soc : SocValue) (limits : LimitsValue) (plan : PlanValue) (mark : BoundMark) (parts : Parts) (t0 t1 t2 t3 t4 : List ℕ) → AreParts soc limits plan parts → t0 ≡ [] → t1 ≡ t0 ++ head_text (parts.bottom + 24) → t2 ≡ t1 ++ frame_text parts.wires →
@@ -100,7 +98,7 @@ pub picture_is : (soc : SocValue) (limits : LimitsValue) (plan : PlanValue) (mar
 picture_is soc limits plan mark parts t0 t1 t2 t3 t4 p none head frame inner end =
     let within = (if nat_eq plan.cycles 0 then [] else inner_text soc limits plan mark) in
     let rest = within ++ codes "</svg>\n" in
-    behind t4 t1 t0 (head_text (parts.bottom + 24)) (frame_text parts.wires ++ rest) (behind t4 t2 t1 (frame_text parts.wires) rest (behind t4 t3 t2 within (codes "</svg>\n") end inner) frame) head
+    joined_before t4 t1 t0 (head_text (parts.bottom + 24)) (frame_text parts.wires ++ rest) (joined_before t4 t2 t1 (frame_text parts.wires) rest (joined_before t4 t3 t2 within (codes "</svg>\n") end inner) frame) head
     ∙ ap (λ l. l ++ (head_text (parts.bottom + 24) ++ (frame_text parts.wires ++ rest))) none
     ∙ ap (λ (bottom : ℕ). head_text (bottom + 24) ++ (frame_text parts.wires ++ rest)) p.bottom
     ∙ ap (λ wires. head_text (bottom_of (below (lanes_of soc limits plan)) plan.cycles limits.power + 24) ++ (frame_text wires ++ rest)) p.wires

@@ -7,15 +7,12 @@ use Rattle.std.proofs.lemmas.Bool.{cases_eq, cases_lt, eq-eqb, ne_eqb, lt-ltb, l
 use Rattle.std.proofs.lemmas.List.{map-append, take_more}
 use Rattle.std.proofs.lemmas.List.Sorted.{sum_by-IsPermutation}
 use Rattle.std.proofs.lemmas.List.Sums.{sum_by-cons}
-use Rattle.soc_model.proofs.Sums.{sum_by-map}
 use Rattle.plan_model.proofs.Lists.{from_append}
 use Rattle.picture.specs.declared.panels.Drawn.{Drawn}
 use Rattle.picture.specs.Fills.{AreStartKeys, AreStarts, band, band_key, earlier, is_earlier, start_key}
+use Rattle.common_lemmas.proofs.Lists.{only_one, count_cons, sum_map}
 
 -- ---- how many pass a test
-
-count_cons : {X : Type 0} (p : X → Bool) (x : X) (xs : List X) → count_by p (x ∷ xs) ≡ cond (p x) 1 0 + count_by p xs
-count_cons p x xs = sum_by-cons (λ y. cond (p y) 1 0) x xs
 
 none_pass : (p : ℕ → Bool) (xs : List ℕ) → AllWithin (λ k. p k ≡ false) xs 0 (length xs) → count_by p xs ≡ 0
 none_pass p [] fail = refl
@@ -71,7 +68,7 @@ key_counts a s b c small small' = elim (cases_lt a b) [
 -- the sorted keys below one are those of rectangles
 by_drawn : (drawn : List Drawn) (keys : List ℕ) (key : ℕ) → AreStarts drawn keys → count_by (λ k. nat_lt k key) keys ≡ count_by (λ d. nat_lt (start_key d) key) drawn
 by_drawn drawn keys key starts =
-    sum_by-IsPermutation (λ k. cond (nat_lt k key) 1 0) (map start_key drawn) keys starts.once ∙ sum_by-map (λ k. cond (nat_lt k key) 1 0) start_key drawn
+    sum_by-IsPermutation (λ k. cond (nat_lt k key) 1 0) (map start_key drawn) keys starts.once ∙ sum_map (λ k. cond (nat_lt k key) 1 0) start_key drawn
 
 pub earlier_is : (drawn : List Drawn) (keys : List ℕ) (b c : ℕ) → c < 2 ^ 64 → AreStarts drawn keys → count_by (λ k. nat_lt k (band_key b c)) keys - count_by (λ k. nat_lt k (band_key b 0)) keys ≡ earlier drawn b c
 earlier_is drawn keys b c small starts =
@@ -79,10 +76,6 @@ earlier_is drawn keys b c small starts =
     omega (arith, by_drawn drawn keys (band_key b c) starts, by_drawn drawn keys (band_key b 0) starts, split)
 
 -- ---- one rectangle more
-
-only_one : {X : Type 0} (x y : X) (j : ℕ) → slice_get (x ∷ []) j ≡ Some y → x ≡ y
-only_one x y zero at = cc
-only_one x y (suc j) at = absurd cc
 
 pub keys_more : (drawn : List Drawn) (i : ℕ) (d : Drawn) (old new : List ℕ) → i < length drawn → (get_or drawn i d).rectangle.start < 2 ^ 64 → AreStartKeys (take i drawn) old → new ≡ old ++ start_key (get_or drawn i d) ∷ [] → AreStartKeys (take (i + 1) drawn) new
 keys_more drawn i d old new less small so_far added =

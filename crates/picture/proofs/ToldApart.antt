@@ -10,7 +10,7 @@ use Rattle.soc_model.specs.Chips.{SocValue, is_live}
 use Rattle.plan_model.specs.Plans.{LimitsValue, PlanValue, PlannedTest, end_of, planned, widths}
 use Rattle.plan_model.specs.Rules.{IsGood}
 use Rattle.plan_model.proofs.GoodPlansRunRight.{planned_some}
-use Rattle.plan_model.proofs.Lists.{from_filter, from_flat_map, from_map}
+use Rattle.plan_model.proofs.Lists.{from_filter, from_flat_map}
 use Rattle.plan_model.proofs.PlannedTests.{Origin, origin}
 use Rattle.plan_model.proofs.Sums.{sum_by-le_at, item-le-sum_by}
 use Rattle.live_tests.specs.declared.placed.PlacedTest.{PlacedTest}
@@ -25,6 +25,7 @@ use Rattle.picture.proofs.Apart.{rectangles_apart, wires_at}
 use Rattle.picture.proofs.LanesApart.{lanes_apart}
 use Rattle.picture.proofs.SelfTests.{in_lanes, laned_tests}
 use Rattle.picture.proofs.StartsCounted.{count_split}
+use Rattle.common_lemmas.proofs.Lists.{from_map}
 
 -- ---- even and odd
 

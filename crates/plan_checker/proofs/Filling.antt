@@ -9,12 +9,12 @@ use Rattle.std.proofs.lemmas.Option.{slice_get_within, get_or_from_slice_get}
 use Rattle.soc_model.specs.declared.TestId.{TestId}
 use Rattle.soc_model.specs.Chips.{ModuleValue, SocValue, LiveTest, live_from, live_tests, same_test}
 use Rattle.plan_model.specs.Plans.{PlanValue, planned, planned_test}
-use Rattle.plan_model.proofs.Lists.{any_at, in_append_left}
 use Rattle.live_tests.specs.Names.{AllDiffer, names_in}
 use Rattle.live_tests.specs.Placed.{placed_in, placed_of, placed_tests}
 use Rattle.live_tests.specs.declared.placed.PlacedTest.{PlacedTest}
 use Rattle.live_tests.proofs.Placing.{module_more, placed_live}
 use Rattle.plan_checker.proofs.Rooms.{same_test_is}
+use Rattle.common_lemmas.proofs.Lists.{any_at, at_left}
 
 -- ---- what passes at the front of a list
 
@@ -46,7 +46,7 @@ passing_within f p xs k x done next n at passes is room = omega (arith, passing_
 -- ---- names
 
 differ_front : {X : Type 0} (xs ys : List X) → AllDiffer (xs ++ ys) → AllDiffer xs
-differ_front xs ys differ p q x at there = differ p q x (in_append_left xs ys p x at) (in_append_left xs ys q x there)
+differ_front xs ys differ p q x at there = differ p q x (at_left xs ys p x at) (at_left xs ys q x there)
 
 -- where names differ, the next one isn't among those before it
 pub name_new : (names rest all : List TestId) (id : TestId) → AllDiffer all → all ≡ names ++ id ∷ rest → list_any (same_test id) names ≡ false
@@ -61,7 +61,7 @@ name_new names rest all id differ is = by (list_any (same_test id) names) refl
     by true e =
         let r = any_at (same_test id) names e in
         let same : id ≡ r.1 = same_test_is id r.1 r.3 in
-        let there : slice_get all r.0 ≡ Some id = ap (λ l. slice_get l r.0) is ∙ in_append_left names (id ∷ rest) r.0 r.1 r.2 ∙ ap Some (sym same) in
+        let there : slice_get all r.0 ≡ Some id = ap (λ l. slice_get l r.0) is ∙ at_left names (id ∷ rest) r.0 r.1 r.2 ∙ ap Some (sym same) in
         let one : r.0 ≡ length names = differ r.0 (length names) id there (ap (λ l. slice_get l (length names)) is ∙ here names) in
         absurd (omega (arith, one, slice_get_within names r.0 r.1 r.2))
 

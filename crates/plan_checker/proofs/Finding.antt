@@ -7,10 +7,10 @@ use Rattle.std.proofs.lemmas.Option.{slice_get_within, get_or_from_slice_get, sl
 use Rattle.soc_model.specs.declared.Test.{Test}
 use Rattle.soc_model.specs.Chips.{ModuleValue, SocValue, is_live}
 use Rattle.plan_model.specs.Rules.{live_ids}
-use Rattle.plan_model.proofs.Finding.{in_filter}
 use Rattle.plan_model.proofs.Lists.{in_flat_map}
 use Rattle.live_tests.specs.Names.{name_in, names_in}
 use Rattle.live_tests.proofs.Indexing.{names_are}
+use Rattle.common_lemmas.proofs.Lists.{contains_from, in_filter}
 
 pub some_same : {X : Type 0} {x y : X} → Some x ≡ Some y → x ≡ y
 some_same e = cc
@@ -57,9 +57,6 @@ position_fails p xs None e = elim (cases_lt (position_or_len p xs) (length xs)) 
   | inl less ↦ let e' = rw (lt-ltb (position_or_len p xs) (length xs) less) at e in absurd cc
   | inr more ↦ or_len_none p xs more
 ]
-
-pub contains_from : {X : Type 0} (xs : List X) (x : X) (k : ℕ) → slice_get xs k ≡ Some x → Contains xs x
-contains_from xs x k at = (k, slice_get_within xs k x at, get_or_from_slice_get xs k x x at)
 
 -- the number of the module at a place
 pub number_at : (ms : List ModuleValue) (p : ℕ) (m : ModuleValue) → slice_get ms p ≡ Some m → slice_get (map (λ (m : ModuleValue). m.number) ms) p ≡ Some m.number

@@ -5,6 +5,7 @@ use Rattle.std.proofs.lemmas.Option.{slice_get_within}
 use Rattle.plan_model.specs.Rules.{IsFirstBreach, Each}
 use Rattle.plan_model.proofs.Lists.{from_append}
 use Rattle.plan_model.proofs.Lists.{split_at}
+use Rattle.common_lemmas.proofs.Lists.{at_left}
 
 -- ---- joined lists
 
@@ -15,11 +16,6 @@ length_split (x ∷ xs) ys n = let e : suc (length xs) + n ≡ suc (length xs + 
 pub get_behind : {X : Type 0} (xs ys : List X) (n : ℕ) → slice_get (xs ++ ys) (length xs + n) ≡ slice_get ys n
 get_behind [] ys n = let e : 0 + n ≡ n = omega arith in rw e refl
 get_behind (x ∷ xs) ys n = let e : suc (length xs) + n ≡ suc (length xs + n) = omega arith in rw e (get_behind xs ys n)
-
-pub get_front : {X : Type 0} (xs ys : List X) (n : ℕ) (x : X) → slice_get xs n ≡ Some x → slice_get (xs ++ ys) n ≡ Some x
-get_front [] ys n x e = absurd cc
-get_front (y ∷ xs) ys zero x e = e
-get_front (y ∷ xs) ys (suc n) x e = get_front xs ys n x e
 
 pub take_front : {X : Type 0} (xs ys : List X) (n : ℕ) → n ≤ length xs → take n (xs ++ ys) ≡ take n xs
 take_front [] ys zero h = refl
@@ -38,13 +34,13 @@ each_append P xs ys a b n x at = elim (from_append xs ys n x at) [
 ]
 
 pub each_front : {X : Type 0} (P : List X → X → Type 0) (xs ys : List X) → Each P (xs ++ ys) → Each P xs
-each_front P xs ys h n x at = rw (take_front xs ys n (omega (arith, slice_get_within xs n x at))) at (h n x (get_front xs ys n x at))
+each_front P xs ys h n x at = rw (take_front xs ys n (omega (arith, slice_get_within xs n x at))) at (h n x (at_left xs ys n x at))
 
 pub first_front : {X : Type 0} (P : List X → X → Type 0) (xs ys : List X) (n : ℕ) (x : X) → IsFirstBreach P xs n x → IsFirstBreach P (xs ++ ys) n x
 first_front P xs ys n x f =
     let within : n < length xs = slice_get_within xs n x f.there in
     record {
-      there = get_front xs ys n x f.there;
+      there = at_left xs ys n x f.there;
       breaks = rw (take_front xs ys n (omega arith)) f.breaks;
       earlier = λ m y less at. elim (from_append xs ys m y at) [
         | inl e ↦ rw (take_front xs ys m (omega arith)) (f.earlier m y less e)

@@ -22,7 +22,7 @@ use Rattle.plan_checker.specs.Layout.{IsLayout}
 use Rattle.plan_checker.specs.Meetings.{AreBegins, AreSlots}
 use Rattle.plan_checker.specs.Stages.{KeptTo}
 use Rattle.plan_checker.proofs.Lifting.{place_within}
-use Rattle.plan_checker.proofs.Rooms.{at_map}
+use Rattle.common_lemmas.proofs.Lists.{from_map}
 
 -- ---- few buses
 
@@ -68,7 +68,7 @@ bus_of_some false bus s is = absurd cc
 
 slots_are : (soc : SocValue) (limits : LimitsValue) (plan : PlanValue) (parents : List ℕ) (n : ℕ) → IsSoundLimits soc limits → KeptTo soc limits plan 7 → AreParents soc parents → length parents ≡ length soc.modules → n ≡ length parents + WIRES_MOST + 1 → AreSlots parents (placed_tests soc plan) n
 slots_are soc limits plan parents n sound kept are long room i j at =
-    let t = at_map placed_of (planned soc plan) i j at in
+    let t = from_map placed_of (planned soc plan) i j at in
     let within : (t.0).place < length soc.modules = place_within soc plan i t.0 t.1 in
     let p : HasParentAt soc parents (t.0).place = are (t.0).place within in
     let parent : slice_index parents (t.0).place ≡ p.q = get_or_from_slice_get parents (t.0).place p.q 0 p.at in
@@ -83,8 +83,8 @@ slots_are soc limits plan parents n sound kept are long room i j at =
 
 parents_first : (soc : SocValue) (plan : PlanValue) (parents : List ℕ) → AreParents soc parents → ParentsFirst parents (placed_tests soc plan)
 parents_first soc plan parents are i j a b at at' same =
-    let t = at_map placed_of (planned soc plan) i a at in
-    let u = at_map placed_of (planned soc plan) j b at' in
+    let t = from_map placed_of (planned soc plan) i a at in
+    let u = from_map placed_of (planned soc plan) j b at' in
     let p : HasParentAt soc parents (u.0).place = are (u.0).place (place_within soc plan j u.0 u.1) in
     let parent : slice_index parents (u.0).place ≡ p.q = get_or_from_slice_get parents (u.0).place p.q 0 p.at in
     let same' : (t.0).place ≡ slice_index parents (u.0).place = rw (← t.2, ← u.2) at same in

@@ -19,7 +19,7 @@ use Rattle.plan_checker.specs.declared.clashes.Apart.TheVariants as apart
 use Rattle.live_tests.specs.Placed.{bus_over, placed_of, placed_tests}
 use Rattle.live_tests.specs.Parents.{HasParentAt, AreParents}
 use Rattle.plan_checker.specs.Clashes.{keeps_apart, same_slot, Clash, IsBefore, IsLeast, IsBest, clash_fault, rule_for}
-use Rattle.plan_checker.proofs.Rooms.{map_at, at_map}
+use Rattle.common_lemmas.proofs.Lists.{map_at, from_map}
 
 -- what the code asks of two placed tests is what the rule asks of the two tests
 pub record Agrees (r : PlacedTest → PlacedTest → Bool) (R : PlannedTest → PlannedTest → Type 0) (tests : List PlannedTest) : Type 0 where
@@ -45,8 +45,8 @@ pub record Up (R : PlannedTest → PlannedTest → Type 0) (tests : List Planned
 
 clash_up : (r : PlacedTest → PlacedTest → Bool) (R : PlannedTest → PlannedTest → Type 0) (tests : List PlannedTest) → Agrees r R tests → (i j c : ℕ) (k : Clash r (map placed_of tests) i j c) → Up R tests i j c k.a k.b
 clash_up r R tests agrees i j c k =
-    let t = at_map placed_of tests i k.a k.at in
-    let u = at_map placed_of tests j k.b k.at' in
+    let t = from_map placed_of tests i k.a k.at in
+    let u = from_map placed_of tests j k.b k.at' in
     let both = rw (← t.2, ← u.2) at k.both in
     record {
       t = t.0;

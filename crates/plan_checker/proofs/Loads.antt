@@ -26,7 +26,8 @@ use Rattle.plan_checker.proofs.Filling.{placed_length}
 use Rattle.live_tests.proofs.HowMany.{live_tests-le}
 use Rattle.live_tests.proofs.LiveIds.{ids_differ}
 use Rattle.live_tests.proofs.Placing.{names_placed}
-use Rattle.plan_checker.proofs.Rooms.{at_map, length_values}
+use Rattle.plan_checker.proofs.Rooms.{length_values}
+use Rattle.common_lemmas.proofs.Lists.{from_map}
 
 -- ---- names
 
@@ -63,7 +64,7 @@ record PlacedOrigin (soc : SocValue) (plan : PlanValue) (i : ℕ) (j : PlacedTes
 placed_origin : (soc : SocValue) (plan : PlanValue) (i : ℕ) (j : PlacedTest) → slice_get (placed_tests soc plan) i ≡ Some j → PlacedOrigin soc plan i j
 unfolding planned_test
 placed_origin soc plan i j at =
-    let t = at_map placed_of (planned soc plan) i j at in
+    let t = from_map placed_of (planned soc plan) i j at in
     let o : Origin soc plan i t.0 = origin soc plan i t.0 t.1 in
     record {
       l = o.l;

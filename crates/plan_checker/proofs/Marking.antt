@@ -9,19 +9,19 @@ use Rattle.soc_model.specs.Chips.{SocValue, ModuleValue}
 use Rattle.plan_model.specs.Plans.{BusValue, PlanValue, bus_place}
 use Rattle.plan_model.specs.Rules.{Each, IsFirstBreach, IsNew, IsListed, has_tam, listed}
 use Rattle.soc_model.specs.Chips.{numbers}
-use Rattle.plan_model.proofs.Lists.{contains_at, any_from, in_flat_map}
+use Rattle.plan_model.proofs.Lists.{any_from, in_flat_map}
 use Rattle.plan_checker.specs.Marks.{AreMarks, IsUnlisted, AreMarked, AreMarkedTo, AreBusesBy}
-use Rattle.plan_checker.proofs.Finding.{contains_from, some_same, number_at}
+use Rattle.plan_checker.proofs.Finding.{some_same, number_at}
 use Rattle.plan_checker.specs.Broken.{EachOf}
 use Rattle.plan_model.proofs.FirstBreaches.{EachTo}
 use Rattle.plan_checker.proofs.Firsts.{Behind, each_append, first_front, first_behind}
 use Rattle.plan_checker.proofs.Breaking.{flat_split, flat_more_at}
-use Rattle.live_tests.proofs.WrittenParents.{set_here, set_else}
-use Rattle.plan_checker.proofs.Rooms.{any_item}
+use Rattle.live_tests.proofs.WrittenParents.{set_else}
+use Rattle.common_lemmas.proofs.Lists.{any_at, set_here, contains_from, contains_at}
 
 pub any_contains : (n : ℕ) (xs : List ℕ) → list_any (eqb n) xs ≡ true → Contains xs n
 any_contains n xs h =
-    let r = any_item (eqb n) xs h in
+    let r = any_at (eqb n) xs h in
     contains_from xs n r.0 (r.2 ∙ ap Some (sym (eqb-true n r.1 r.3)))
 
 pub contains_any : (n : ℕ) (xs : List ℕ) → Contains xs n → list_any (eqb n) xs ≡ true

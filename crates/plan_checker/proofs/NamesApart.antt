@@ -8,7 +8,8 @@ use Rattle.live_tests.specs.Names.{AllDiffer}
 use Rattle.live_tests.specs.declared.placed.PlacedTest.{PlacedTest}
 use Rattle.plan_checker.specs.Named.{names_of}
 use Rattle.plan_checker.proofs.Finding.{position_finds, position_fails, some_same}
-use Rattle.plan_checker.proofs.Rooms.{same_test_is, same_test_itself, map_at}
+use Rattle.plan_checker.proofs.Rooms.{same_test_is, same_test_itself}
+use Rattle.common_lemmas.proofs.Lists.{map_at}
 
 pub name_found : (id : TestId) (names : List TestId) (r : Option ℕ) → r ≡ position (same_test id) names → IfSome r (λ p. slice_get names p ≡ Some id)
 name_found id names None e = tt

@@ -8,15 +8,15 @@ use Rattle.live_tests.specs.declared.placed.PlacedTest.{PlacedTest}
 use Rattle.live_tests.specs.Placed.{placed_of, placed_tests}
 use Rattle.plan_checker.specs.Order.{AreInOrder, last_end}
 use Rattle.plan_model.proofs.FirstBreaches.{EachTo}
-use Rattle.plan_checker.proofs.Rooms.{map_at, at_map}
+use Rattle.common_lemmas.proofs.Lists.{map_at, from_map}
 
 pub order_up : (tests : List PlannedTest) (e e' : List (TestId × TestId)) (p : TestId × TestId) → AreInOrder (map placed_of tests) e p → InOrder tests e' p
 order_up tests e e' p h i j t u at at' same = h i j (placed_of t) (placed_of u) (map_at placed_of tests i t at) (map_at placed_of tests j u at') (ap (λ (p : TestId × TestId). p.0) (sym same)) (ap (λ (p : TestId × TestId). p.1) (sym same))
 
 pub order_down : (tests : List PlannedTest) (e e' : List (TestId × TestId)) (p : TestId × TestId) → InOrder tests e p → AreInOrder (map placed_of tests) e' p
 order_down tests e e' p h i j a b at at' first second =
-    let t = at_map placed_of tests i a at in
-    let u = at_map placed_of tests j b at' in
+    let t = from_map placed_of tests i a at in
+    let u = from_map placed_of tests j b at' in
     let id : (t.0).id ≡ p.0 = ap (λ (j : PlacedTest). j.id) t.2 ∙ first in
     let id' : (u.0).id ≡ p.1 = ap (λ (j : PlacedTest). j.id) u.2 ∙ second in
     let k : end_of t.0 ≤ (u.0).start = h i j t.0 u.0 t.1 u.1 (pair p (t.0).id (u.0).id id id') in

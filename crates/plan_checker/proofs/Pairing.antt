@@ -10,13 +10,13 @@ use Rattle.plan_model.specs.Plans.{BusValue, WrapperValue, bus_place}
 use Rattle.plan_checker.specs.Marks.{IsWired}
 use Rattle.plan_model.specs.Rules.{pair_of, uses_mode, mode_pair, used_pairs}
 use Rattle.soc_model.specs.Chips.{numbers}
-use Rattle.plan_model.proofs.Lists.{contains_at, in_flat_map, from_append, any_from}
+use Rattle.plan_model.proofs.Lists.{in_flat_map, from_append, any_from}
 use Rattle.plan_model.proofs.PlannedTests.{pair_used}
 use Rattle.plan_model.proofs.Lists.{from_flat_map}
 use Rattle.live_tests.specs.Index.{is_pair}
-use Rattle.plan_checker.proofs.Finding.{contains_from, some_same, number_at}
-use Rattle.plan_checker.proofs.Rooms.{any_item}
+use Rattle.plan_checker.proofs.Finding.{some_same, number_at}
 use Rattle.plan_checker.proofs.Listing.{is_pair_of, is_pair_itself}
+use Rattle.common_lemmas.proofs.Lists.{any_at, contains_from, contains_at}
 
 pub pair_there : (soc : SocValue) (p : ℕ) (m : ModuleValue) (number : ℕ) (scan : Bool) → slice_get soc.modules p ≡ Some m → slice_get (numbers soc) p ≡ Some number → uses_mode scan m ≡ true → Contains (used_pairs soc) (number, scan)
 pair_there soc p m number scan at found used =
@@ -56,7 +56,7 @@ used_at soc number scan c =
 
 pub paired : (m : ℕ) (scan : Bool) (ps : List (ℕ × Bool)) → list_any (is_pair m scan) ps ≡ true → Contains ps (m, scan)
 paired m scan ps h =
-    let r = any_item (is_pair m scan) ps h in
+    let r = any_at (is_pair m scan) ps h in
     let is = is_pair_of m scan r.1 r.3 in
     contains_from ps (m, scan) r.0 (r.2 ∙ ap Some (join r.1 m scan is.0 is.1))
   where
@@ -74,11 +74,3 @@ wired_if buses w n width a b some = elim (cases_lt width n) [
   | inl less ↦ rw (lt-leb n width less) (λ on. omega (arith, on.1))
   | inr more ↦ rw (le-leb n width more) (omega arith, omega arith)
 ]
-
-pub not_is_true : (b : Bool) → not b ≡ true → b ≡ false
-not_is_true true e = sym e
-not_is_true false e = refl
-
-pub not_is_false : (b : Bool) → not b ≡ false → b ≡ true
-not_is_false true e = refl
-not_is_false false e = sym e

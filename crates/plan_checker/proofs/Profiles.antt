@@ -3,10 +3,9 @@ use Rattle.std.proofs.Common.{◌≡◌, ℕ, zero, suc, ◌+◌, ◌-◌, ◌�
 use Rattle.std.specs.Prelude.{slice_get}
 use Rattle.std.specs.List.{position_or_len}
 use Rattle.std.proofs.lemmas.Bool.{cases_Bool}
-use Rattle.std.proofs.lemmas.Option.{slice_get_within, slice_get-get_or}
+use Rattle.std.proofs.lemmas.Option.{slice_get_within, slice_get-get_or, slice_get_past}
 use Rattle.soc_model.specs.declared.TestId.{TestId}
 use Rattle.soc_model.specs.Chips.{same_test}
-use Rattle.soc_model.proofs.Sums.{sum_by-map}
 use Rattle.plan_model.specs.declared.Profile.{Profile}
 use Rattle.plan_model.specs.Views.{profile_value}
 use Rattle.plan_model.specs.Plans.{ProfileValue, LimitsValue, PlannedTest, power_of, power_at, is_active}
@@ -21,8 +20,9 @@ use Rattle.plan_checker.specs.Events.{IsFirstOver}
 use Rattle.plan_checker.specs.Power.{AreProfiles}
 use Rattle.power_events.specs.Loads.{drawn, drawn_by}
 use Rattle.power_events.specs.Events.{profile_place, steps_from, steps_of}
-use Rattle.live_tests.proofs.WrittenParents.{set_here, set_else}
-use Rattle.plan_checker.proofs.Rooms.{map_at, same_test_is, same_test_itself}
+use Rattle.live_tests.proofs.WrittenParents.{set_else}
+use Rattle.plan_checker.proofs.Rooms.{same_test_is, same_test_itself}
+use Rattle.common_lemmas.proofs.Lists.{drop_at, map_at, set_here, sum_map}
 
 -- ---- the places of profiles, written from the last profile to the first
 
@@ -30,15 +30,10 @@ use Rattle.plan_checker.proofs.Rooms.{map_at, same_test_is, same_test_itself}
 abbrev pub AreProfilesFrom : LimitsValue → List PlacedTest → ℕ → List ℕ → Type 0
 AreProfilesFrom limits placed at places = (i : ℕ) (j : PlacedTest) → slice_get placed i ≡ Some j → slice_get places i ≡ Some (at + position_or_len (λ (p : ProfileValue). same_test p.test j.id) (drop at limits.profiles))
 
-drop_item : {X : Type 0} (xs : List X) (i : ℕ) (x : X) → slice_get xs i ≡ Some x → drop i xs ≡ x ∷ drop (suc i) xs
-drop_item [] i x e = absurd cc
-drop_item (y ∷ xs) zero x e = let same : y ≡ x = cc in rw same refl
-drop_item (y ∷ xs) (suc i) x e = drop_item xs i x e
-
 -- one more profile, of a test that is not placed
 pub profile_of_none : (limits : LimitsValue) (placed : List PlacedTest) (n at : ℕ) (p : ProfileValue) (places : List ℕ) → n ≡ suc at → slice_get limits.profiles at ≡ Some p → ((i : ℕ) → slice_get (names_of placed) i ≡ Some p.test → ⊥) → AreProfilesFrom limits placed n places → AreProfilesFrom limits placed at places
 profile_of_none limits placed n at p places next there none are i j test_at =
-    other (drop_item limits.profiles at p there) (cases_Bool (same_test p.test j.id))
+    other (drop_at limits.profiles at p there) (cases_Bool (same_test p.test j.id))
   where
     other : drop at limits.profiles ≡ p ∷ drop (suc at) limits.profiles → (same_test p.test j.id ≡ true) ⊎ (same_test p.test j.id ≡ false) → slice_get places i ≡ Some (at + position_or_len (λ (p : ProfileValue). same_test p.test j.id) (drop at limits.profiles))
     other items (inl yes') = absurd (none i (map_at (λ (j : PlacedTest). j.id) placed i j test_at ∙ ap Some (sym (same_test_is p.test j.id yes'))))
@@ -51,7 +46,7 @@ profile_of_none limits placed n at p places next there none are i j test_at =
 -- one more profile, of the test at a place
 pub profile_of_test : (limits : LimitsValue) (placed : List PlacedTest) (n at : ℕ) (p : ProfileValue) (places : List ℕ) (q : ℕ) → n ≡ suc at → AllDiffer (names_of placed) → length places ≡ length placed → slice_get limits.profiles at ≡ Some p → slice_get (names_of placed) q ≡ Some p.test → AreProfilesFrom limits placed n places → AreProfilesFrom limits placed at (set places q at)
 profile_of_test limits placed n at p places q next apart long there named are i j test_at =
-    go (drop_item limits.profiles at p there) (cases_Bool (same_test p.test j.id))
+    go (drop_at limits.profiles at p there) (cases_Bool (same_test p.test j.id))
   where
     go : drop at limits.profiles ≡ p ∷ drop (suc at) limits.profiles → (same_test p.test j.id ≡ true) ⊎ (same_test p.test j.id ≡ false) → slice_get (set places q at) i ≡ Some (at + position_or_len (λ (p : ProfileValue). same_test p.test j.id) (drop at limits.profiles))
     go items (inl yes') =
@@ -94,7 +89,7 @@ all_profiles limits placed places n none are i j at =
 -- ---- what the tests draw is what the planned tests draw
 
 pub power_is : (limits : LimitsValue) (tests : List PlannedTest) (c : ℕ) → drawn_by limits (map placed_of tests) c ≡ power_at limits tests c
-power_is limits tests c = sum_by-map (drawn limits c) placed_of tests ∙ sym (sum_by-filter (is_active c) (λ t. power_of limits t (c - t.start)) tests)
+power_is limits tests c = sum_map (drawn limits c) placed_of tests ∙ sym (sum_by-filter (is_active c) (λ t. power_of limits t (c - t.start)) tests)
 
 -- ---- what the code reads
 
@@ -102,17 +97,12 @@ power_is limits tests c = sum_by-map (drawn limits c) placed_of tests ∙ sym (s
 pub profile_read : (ps : List Profile) (k : ℕ) (x : Profile) → k < length ps → x ≡ get_or ps k x → slice_get (map profile_value ps) k ≡ Some (profile_value x)
 profile_read ps k x within is = map_at profile_value ps k x (slice_get-get_or ps k x within ∙ ap Some (sym is))
 
-pub past_none : {X : Type 0} (xs : List X) (n : ℕ) → length xs ≤ n → slice_get xs n ≡ None
-past_none [] n h = refl
-past_none (x ∷ xs) zero h = absurd (omega arith)
-past_none (x ∷ xs) (suc n) h = past_none xs n (omega arith)
-
 -- the steps of a test whose profile stands at a place, and of one without a profile
 pub steps_read : (limits : LimitsValue) (j : PlacedTest) (k : ℕ) (p : ProfileValue) → k ≡ profile_place limits j.id → slice_get limits.profiles k ≡ Some p → steps_of limits j ≡ p.steps
 steps_read limits j k p place at = let at' = rw place at at in ap (λ o. steps_from o j.power) at'
 
 pub steps_own : (limits : LimitsValue) (j : PlacedTest) (k : ℕ) → k ≡ profile_place limits j.id → length limits.profiles ≤ k → steps_of limits j ≡ (0, j.power) ∷ []
-steps_own limits j k place past = ap (λ o. steps_from o j.power) (past_none limits.profiles (profile_place limits j.id) (omega (arith, place)))
+steps_own limits j k place past = ap (λ o. steps_from o j.power) (slice_get_past limits.profiles (profile_place limits j.id) (omega (arith, place)))
 
 -- ---- the first cycle of too much power
 

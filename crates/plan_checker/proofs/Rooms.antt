@@ -7,10 +7,9 @@ use Rattle.std.proofs.lemmas.Option.{slice_get-get_or}
 use Rattle.soc_model.specs.declared.TestId.{TestId}
 use Rattle.soc_model.specs.Chips.{same_test}
 use Rattle.plan_model.specs.Rules.{IsNew}
-use Rattle.plan_model.proofs.Lists.{contains_at}
 use Rattle.plan_model.proofs.FirstBreaches.{EachTo}
 use Rattle.plan_checker.proofs.Firsts.{pigeon}
-use Rattle.plan_checker.proofs.Finding.{contains_from}
+use Rattle.common_lemmas.proofs.Lists.{map_at, contains_from, contains_at}
 
 pub on_ok : {T E : Type 0} (r : Result T E) (P : Type 0) → IsOk r → OnOk r P → P
 on_ok (Ok x) P is p = p
@@ -31,23 +30,6 @@ same_test_is a b h =
 
 pub same_test_itself : (a : TestId) → same_test a a ≡ true
 same_test_itself a = rw (eq-eqb a.«module» a.«module» refl, eq-eqb a.test a.test refl) refl
-
-pub any_item : {X : Type 0} (p : X → Bool) (xs : List X) → list_any p xs ≡ true → (i : ℕ) × (x : X) × (slice_get xs i ≡ Some x) × (p x ≡ true)
-any_item p [] h = absurd (true≢false (sym h))
-any_item p (x ∷ xs) h = elim (cases_Bool (p x)) [
-  | inl yes' ↦ (0, x, refl, yes')
-  | inr no' ↦ let h' = rw no' at h in let r = any_item p xs h' in (suc r.0, r.1, r.2, r.3)
-]
-
-pub map_at : {X Y : Type 0} (f : X → Y) (xs : List X) (i : ℕ) (x : X) → slice_get xs i ≡ Some x → slice_get (map f xs) i ≡ Some (f x)
-map_at f [] i x e = absurd cc
-map_at f (y ∷ xs) zero x e = let same : y ≡ x = cc in rw same refl
-map_at f (y ∷ xs) (suc i) x e = map_at f xs i x e
-
-pub at_map : {X Y : Type 0} (f : X → Y) (xs : List X) (i : ℕ) (y : Y) → slice_get (map f xs) i ≡ Some y → (x : X) × (slice_get xs i ≡ Some x) × (f x ≡ y)
-at_map f [] i y e = absurd cc
-at_map f (x ∷ xs) zero y e = (x, refl, cc)
-at_map f (x ∷ xs) (suc i) y e = at_map f xs i y e
 
 -- ---- place for one more
 

@@ -10,15 +10,16 @@ use Rattle.soc_model.specs.declared.TestId.{TestId}
 use Rattle.soc_model.specs.Chips.{same_test}
 use Rattle.plan_model.specs.Rules.{IsFirstBreach}
 use Rattle.plan_model.proofs.Finding.{none_passes}
-use Rattle.plan_model.proofs.Lists.{any_at, any_from, contains_at, slice_get-replicate}
+use Rattle.plan_model.proofs.Lists.{any_from, slice_get-replicate}
 use Rattle.live_tests.specs.Names.{AllDiffer}
 use Rattle.plan_checker.specs.declared.starts.TheConstants.{NO_START}
 use Rattle.plan_checker.specs.Broken.{EachOf, IsKey}
 use Rattle.plan_checker.specs.Listed.{StartEarly}
 use Rattle.plan_checker.specs.Starting.{AreStarts, start_or}
-use Rattle.plan_checker.proofs.Finding.{contains_from, some_same}
-use Rattle.live_tests.proofs.WrittenParents.{set_here, set_else}
-use Rattle.plan_checker.proofs.Rooms.{same_test_is, same_test_itself, map_at, at_map}
+use Rattle.plan_checker.proofs.Finding.{some_same}
+use Rattle.live_tests.proofs.WrittenParents.{set_else}
+use Rattle.plan_checker.proofs.Rooms.{same_test_is, same_test_itself}
+use Rattle.common_lemmas.proofs.Lists.{map_at, from_map, set_here, contains_from, any_at, contains_at}
 
 -- a start of the test is among these
 abbrev has : TestId → List (TestId × ℕ) → Bool
@@ -67,7 +68,7 @@ has_key id starts some =
 pub key_has : (id : TestId) (starts : List (TestId × ℕ)) → IsKey starts id → has id starts ≡ true
 key_has id starts c =
     let k = contains_at (map (λ (e : TestId × ℕ). e.0) starts) id c in
-    let s = at_map (λ (e : TestId × ℕ). e.0) starts k.0 id k.1 in
+    let s = from_map (λ (e : TestId × ℕ). e.0) starts k.0 id k.1 in
     any_from (λ (s : TestId × ℕ). same_test s.0 id) starts k.0 s.0 s.1 (rw s.2 (same_test_itself id))
 
 pub is_key : (ids : List TestId) (starts : List (TestId × ℕ)) (room : List ℕ) (place d : ℕ) (id : TestId) → AreStarts ids starts room → StartEarly starts → slice_get ids place ≡ Some id → get_or room place d < NO_START → IsKey starts id

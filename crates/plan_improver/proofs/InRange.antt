@@ -20,15 +20,15 @@ use Rattle.plan_model.specs.Certificates.{IsAccepted}
 use Rattle.plan_model.specs.Faults.{IsFaultless}
 use Rattle.plan_model.specs.SoundLimits.{IsSoundLimits}
 use Rattle.plan_model.proofs.Greatest.{greatest-least}
-use Rattle.plan_model.proofs.Lists.{from_map, contains_at, in_append_right, in_flat_map}
+use Rattle.plan_model.proofs.Lists.{in_append_right, in_flat_map}
 use Rattle.plan_model.proofs.PlannedTests.{Origin, origin}
 use Rattle.plan_model.proofs.ProperByCounts.{proper_ins, proper_outs, proper_lists}
 use Rattle.plan_model.proofs.Sums.{item-le-sum_by}
 use Rattle.bound_certificate.proofs.NamesInRange.{names_in_chip, numbers_in_range}
 use Rattle.plan_checker.proofs.Listing.{start_early}
 use Rattle.plan_text.specs.Grammar.{AreSmallStarts, IsChainInRange, IsWrapperInRange, IsInRange}
-use Rattle.planner.proofs.Lists.{all_at}
 use Rattle.planner.proofs.PlanNumbers.{known_small, buses_in_range, starts_in_range, reason_in_range}
+use Rattle.common_lemmas.proofs.Lists.{all_at, from_map, contains_at}
 
 -- what this rests on: a test of a good plan that starts early ends early, and an accepted certificate is a bound
 pub record NumberLaws : Type 0 where

@@ -15,6 +15,7 @@ use Rattle.plan_model.specs.Moments.{IsMoment, phase_ops, wanted_by, turn_value}
 use Rattle.plan_model.specs.declared.moments.Phases.{Phases}
 use Rattle.plan_model.specs.declared.moments.Turn.{Turn}
 use Rattle.plan_model.specs.declared.moments.Moment.TheVariants as moment
+use Rattle.common_lemmas.proofs.Numbers.{same_block}
 
 ops_split : (setup si so p : ℕ) → ops_of setup si so p ≡ replicate setup Setup ++ (replicate si Shift ++ captures (max si so) so p 1 p)
 unfolding ops_of
@@ -69,17 +70,6 @@ from_block setup si so p d r n h at =
     ∙ rw (m', k') (ap (drop r) (block_of (max si so) so p (suc d) (p - suc d) ∙ rw k'' refl))
 
 -- ---- two places in blocks are one
-
-same_block : (w d r e s : ℕ) → r < w → s < w → d * w + r ≡ e * w + s → (d ≡ e) × (r ≡ s)
-same_block w d r e s h h' same =
-    let rests : r ≡ s = sym (mod-mul-add d w r h) ∙ ap (λ v. v % w) same ∙ mod-mul-add e w s h' in
-    (cancel w d e (omega arith) (omega (arith, rests, same)), rests)
-  where
-    cancel : (w d e : ℕ) → 0 < w → d * w ≡ e * w → d ≡ e
-    cancel w zero zero h same = refl
-    cancel w zero (suc e) h same = absurd (omega arith)
-    cancel w (suc d) zero h same = absurd (omega arith)
-    cancel w (suc d) (suc e) h same = ap suc (cancel w d e h (omega arith))
 
 -- a capture before an operation stands in its block, where it is read there
 behind_block : (setup si so p d r n s k q : ℕ) → r < 1 + max si so → n ≡ setup + si + (d * (1 + max si so) + r) → slice_get (ops_of setup si so p) q ≡ Some (Capture k) → n ≡ q + 1 + s → s < so → (k ≡ suc d) × (r ≡ suc s)

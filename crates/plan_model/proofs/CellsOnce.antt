@@ -7,12 +7,12 @@ use Rattle.std.proofs.lemmas.Bool.{cases_Bool, cases_lt, cases_order}
 use Rattle.std.proofs.lemmas.List.Sums.{sum_by-cons, sum_by-append}
 use Rattle.std.proofs.lemmas.List.Sorted.{sum_by-IsPermutation}
 use Rattle.soc_model.specs.Chips.{ModuleValue}
-use Rattle.soc_model.proofs.Sums.{sum_by-map}
 use Rattle.plan_model.specs.Cells.{Cell, In, Flop, Out, in_cells, out_cells, flops, scan_lengths, cells_of}
 use Rattle.plan_model.specs.Listing.{times}
 use Rattle.plan_model.proofs.Sums.{item-le-sum_by, two-le-sum_by}
 use Rattle.plan_model.proofs.LowerTimes.{count_map, count_all_chains}
 use Rattle.plan_model.proofs.ProperByCounts.{times_later, times_range, times_past}
+use Rattle.common_lemmas.proofs.Lists.{sum_map}
 
 -- the same cell
 abbrev pub same_cell : Cell → Cell → Bool
@@ -45,7 +45,7 @@ times_range-le i n c = elim (cases_lt c i) [
 -- as often as a number in a range
 numbered : (p : Cell → Bool) (f : ℕ → Cell) (k : ℕ) → ((n : ℕ) → p (f n) ≡ nat_eq n k) → (i n : ℕ) → count_by p (map f (range_with_len i n)) ≤ 1
 numbered p f k same i n =
-    let a : count_by p (map f (range_with_len i n)) ≡ sum_by (λ x. cond (p (f x)) 1 0) (range_with_len i n) = sum_by-map (λ y. cond (p y) 1 0) f (range_with_len i n) in
+    let a : count_by p (map f (range_with_len i n)) ≡ sum_by (λ x. cond (p (f x)) 1 0) (range_with_len i n) = sum_map (λ y. cond (p y) 1 0) f (range_with_len i n) in
     let b : sum_by (λ x. cond (p (f x)) 1 0) (range_with_len i n) ≡ times k (range_with_len i n) = simp same in
     omega (arith, times_range-le i n k)
 

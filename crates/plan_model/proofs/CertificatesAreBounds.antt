@@ -10,19 +10,19 @@ use Rattle.soc_model.specs.declared.TestId.{TestId}
 use Rattle.soc_model.specs.Chips.{SocValue, LiveTest, live_tests, same_test, id_of, parent_place}
 use Rattle.soc_model.proofs.Parents.{IsParent-from_place}
 use Rattle.soc_model.proofs.Places.{slice_get-from_position}
-use Rattle.soc_model.proofs.Sums.{sum_by-map}
 use Rattle.plan_model.specs.Plans.{LimitsValue, BoundValue, WhyValue, OfModule, OfPair, OfChain, OfArea, OfPower, OfForced}
 use Rattle.plan_model.specs.Rules.{IsBound, Each, live_ids}
 use Rattle.plan_model.specs.Bounds.{lower, sum_where, is_of, module_bound, pair_bound, lower_tam_time}
 use Rattle.plan_model.specs.Certificates.{on, passes, pair_bound_of, is_called, lower_of_id, need_of, certificate_value, IsChainItem, IsForcedItem, KeepsList, IsAccepted, IsElementary}
 use Rattle.soc_model.specs.Lookups.{module_place}
 use Rattle.plan_model.proofs.CertificatesByPlace.{AllLive, IsChain, chain_bound, forced_bound, AreForced}
-use Rattle.plan_model.proofs.Lists.{contains_at, from_map, at_contains, last-take, any_at}
+use Rattle.plan_model.proofs.Lists.{at_contains, last-take}
 use Rattle.plan_model.proofs.PlannedTests.{of_first_is}
 use Rattle.plan_model.proofs.TurnBounds.{module_bounds, pair_bounds, chain_bounds}
 use Rattle.plan_model.proofs.Sums.{sum_by-or, sum_by-le_at}
 use Rattle.plan_model.proofs.PowerAndAreaBounds.{area_bounds, power_bounds}
 use Rattle.plan_model.proofs.ForcedBounds.{forced_bounds}
+use Rattle.common_lemmas.proofs.Lists.{contains_at, from_map, any_at, sum_map}
 
 nothing_bounds : (soc : SocValue) (limits : LimitsValue) → IsBound soc limits 0
 nothing_bounds soc limits plan good = omega arith
@@ -186,7 +186,7 @@ forced_list_bounds soc limits b ms some keeps enough =
     let forced : AreForced soc limits.wires b (places_of soc ms) = forced_places soc limits.wires b ms keeps in
     let by_places : sum_by (λ m. on (module_place soc m) (λ p. lower_tam_time soc p limits.wires)) ms ≤ sum_by (λ m. lower_tam_time soc (place_or soc m) limits.wires) ms =
     sum_by-le_at (λ m. on (module_place soc m) (λ p. lower_tam_time soc p limits.wires)) (λ m. lower_tam_time soc (place_or soc m) limits.wires) ms (λ i m at. least (module_place soc m)) in
-    let mapped : sum_by (λ p. lower_tam_time soc p limits.wires) (places_of soc ms) ≡ sum_by (λ m. lower_tam_time soc (place_or soc m) limits.wires) ms = sum_by-map (λ p. lower_tam_time soc p limits.wires) (place_or soc) ms in
+    let mapped : sum_by (λ p. lower_tam_time soc p limits.wires) (places_of soc ms) ≡ sum_by (λ m. lower_tam_time soc (place_or soc m) limits.wires) ms = sum_map (λ p. lower_tam_time soc p limits.wires) (place_or soc) ms in
     let all : sum_by (λ p. lower_tam_time soc p limits.wires) (places_of soc ms) ≤ forced_bound soc limits.wires (places_of soc ms) = forced_sum soc limits.wires (places_of soc ms) (λ i j x y at at' less. (forced i j x y at at' less).0) in
     forced_bounds soc limits b (places_of soc ms) some forced (omega arith)
   where

@@ -16,8 +16,9 @@ use Rattle.plan_model.proofs.Greatest.{greatest-least}
 use Rattle.plan_model.proofs.LowerTimes.{count_cells, loaded_counts, read_counts, sum_places}
 use Rattle.plan_model.proofs.Sums.{item-le-sum_by}
 use Rattle.plan_model.proofs.ProperFromCounts.{all_scans}
-use Rattle.plan_model.proofs.Lists.{in_append_left, in_append_right}
+use Rattle.plan_model.proofs.Lists.{in_append_right}
 use Rattle.plan_model.proofs.ProperByCounts.{IsCounted, proper_is_counted, all_within, below_value}
+use Rattle.common_lemmas.proofs.Lists.{at_left}
 
 -- the lengths of the scan chains that a chain lists, together
 abbrev pub flops_in : List ℕ → ChainPlan → ℕ
@@ -62,7 +63,7 @@ pub record FitsModule (m : ModuleValue) (scan : Bool) (c : ChainPlan) : Type 0 w
 
 scans_within : (n : ℕ) (chains : List ChainPlan) (i : ℕ) (c : ChainPlan) → ((k x : ℕ) → slice_get (all_scans (map chain_value chains)) k ≡ Some x → x < n) → slice_get chains i ≡ Some c → (k x : ℕ) → slice_get c.scans.items k ≡ Some x → x < n
 scans_within n [] i c h at k x e = absurd cc
-scans_within n (d ∷ ds) zero c h at k x e = let same : d ≡ c = cc in h k x (in_append_left d.scans.items (all_scans (map chain_value ds)) k x (rw same e))
+scans_within n (d ∷ ds) zero c h at k x e = let same : d ≡ c = cc in h k x (at_left d.scans.items (all_scans (map chain_value ds)) k x (rw same e))
 scans_within n (d ∷ ds) (suc i) c h at k x e = scans_within n ds i c (λ k x e. let r = in_append_right d.scans.items (all_scans (map chain_value ds)) k x e in h r.0 x r.1) at k x e
 
 pub chain_fits : (m : ModuleValue) (scan : Bool) (chains : List ChainPlan) → IsProper m scan (map chain_value chains) → (i : ℕ) (c : ChainPlan) → slice_get chains i ≡ Some c → FitsModule m scan c

@@ -8,7 +8,8 @@ use Rattle.soc_model.specs.declared.TestId.{TestId}
 use Rattle.soc_model.specs.Chips.{same_test}
 use Rattle.plan_model.specs.Rules.{Each, IsFirstBreach, IsNew}
 use Rattle.plan_model.proofs.CertificatesAreBounds.{same_test_is, is_same_test}
-use Rattle.plan_model.proofs.Lists.{contains_at, at_contains}
+use Rattle.plan_model.proofs.Lists.{at_contains}
+use Rattle.common_lemmas.proofs.Lists.{contains_at}
 
 abbrev pub Decided : Type 0 → Type 0
 Decided P = P ⊎ (P → ⊥)

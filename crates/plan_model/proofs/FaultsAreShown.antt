@@ -16,10 +16,11 @@ use Rattle.plan_model.specs.Faults.{FaultValue, WidthFault, UnknownModuleFault, 
 use Rattle.plan_model.proofs.Deciding.{Decided, both_decided, implied_decided, not_decided, decided_as, not_refuted, le_decided, lt_decided, true_decided, same_pair, same_name, same_names, all_items, all_below, stands_decided, new_decided, Least, least_below, least, Breach, each_or_first}
 use Rattle.plan_model.proofs.FaultsAreExact.{shows_breaks}
 use Rattle.plan_model.proofs.Greatest.{le-greatest_at}
-use Rattle.plan_model.proofs.Lists.{contains_at, at_contains}
+use Rattle.plan_model.proofs.Lists.{at_contains}
 use Rattle.plan_model.proofs.ProperByCounts.{proper_ins, proper_outs, proper_lists}
 use Rattle.plan_model.proofs.ProperFromCounts.{all_ins, all_outs, all_scans, ListsOnce, proper_from_counts}
 use Rattle.plan_model.proofs.SumsOverCycles.{active_is}
+use Rattle.common_lemmas.proofs.Lists.{contains_at}
 
 -- ---- wrappers
 

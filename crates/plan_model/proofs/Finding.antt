@@ -8,6 +8,7 @@ use Rattle.std.proofs.lemmas.List.Quantifiers.{position-Some}
 use Rattle.std.proofs.lemmas.List.Sums.{fails_before_first}
 use Rattle.std.proofs.lemmas.Option.{slice_get_within, get_or_from_slice_get}
 use Rattle.plan_model.specs.Plans.{of_first}
+use Rattle.common_lemmas.proofs.Options.{cond_none}
 
 -- the first that passes, by its place in a list that is seen elsewise
 of_first_mapped : {X Y Z : Type 0} (v : X → Y) (p : Y → Bool) (f : Y → Z) (d : Z) (xs : List X) (k : ℕ) (e : X) → k < length xs → p (v (get_or xs k e)) ≡ true → ((j : ℕ) → j < k → p (v (get_or xs j e)) ≡ false) → of_first p f d (map v xs) ≡ f (v (get_or xs k e))
@@ -22,14 +23,9 @@ of_first_found v p f d xs k e x found is =
     let r = position-Some (λ x. p (v x)) xs k e found in
     of_first_mapped v p f d xs k e r.0 r.1 r.2 ∙ ap (λ z. f (v z)) (sym is)
 
--- where no place is found, none passes
-false_from : {X : Type 0} (b : Bool) (x : X) → cond b (Some x) None ≡ None → b ≡ false
-false_from true x e = cc
-false_from false x e = refl
-
 pub none_passes : {X : Type 0} (p : X → Bool) (xs : List X) → position p xs ≡ None → (i : ℕ) (x : X) → slice_get xs i ≡ Some x → p x ≡ false
 none_passes p xs none i x at =
-    let past = false_from (nat_lt (position_or_len p xs) (length xs)) (position_or_len p xs) none in
+    let past = cond_none (nat_lt (position_or_len p xs) (length xs)) (position_or_len p xs) none in
     let within = slice_get_within xs i x at in
     let before : i < position_or_len p xs = grind (arith, nat_tests) in
     subst (λ x. p x ≡ false) (get_or_from_slice_get xs i x x at) (fails_before_first p xs i x before)
@@ -42,15 +38,3 @@ of_first_fails v p f d (x ∷ xs) fail =
 
 pub of_first_missing : {X Y Z : Type 0} (v : X → Y) (p : Y → Bool) (f : Y → Z) (d : Z) (xs : List X) → position (λ x. p (v x)) xs ≡ None → of_first p f d (map v xs) ≡ d
 of_first_missing v p f d xs none = of_first_fails v p f d xs (λ i x at. none_passes (λ x. p (v x)) xs none i x at)
-
--- an item that passes stands in the filtered list
-pub in_filter : {X : Type 0} (p : X → Bool) (xs : List X) (k : ℕ) (x : X) → slice_get xs k ≡ Some x → p x ≡ true → (n : ℕ) × (slice_get (filter p xs) n ≡ Some x)
-in_filter p [] k x at passes = absurd cc
-in_filter p (y ∷ xs) zero x at passes =
-    let same : y ≡ x = cc in
-    let here : p y ≡ true = rw same passes in
-    (0, rw here at)
-in_filter p (y ∷ xs) (suc k) x at passes = elim (cases_Bool (p y)) [
-  | inl yes' ↦ let r = in_filter p xs k x at passes in (suc r.0, rw yes' r.1)
-  | inr no' ↦ let r = in_filter p xs k x at passes in (r.0, rw no' r.1)
-]

@@ -17,25 +17,8 @@ use Rattle.plan_model.proofs.PlannedTests.{Origin, origin}
 use Rattle.plan_model.proofs.TurnBounds.{planned_lower, fit_at, live-le-planned, end-le-cycles, place_says}
 use Rattle.plan_model.proofs.PowerAndAreaBounds.{widths_fit, some_width, planned_bus_width, bus_width}
 use Rattle.plan_model.proofs.GoodPlansRunRight.{planned_place}
-use Rattle.plan_model.proofs.Lists.{any_at}
 use Rattle.plan_model.proofs.TestsInGoodPlans.{planned_tam, on_bus}
-
-two_widths : (ws : List ℕ) (b b' : ℕ) → b < b' → slice_index ws b + slice_index ws b' ≤ sum ws
-two_widths ws b b' less = elim (cases_lt b' (length ws)) [
-  | inl within ↦
-      let one : sum (take (b + 1) ws) ≡ sum (take b ws) + get_or ws b 0 = sum_by_more (λ x. x) ws b 0 (omega arith) in
-      let two : sum (take (b' + 1) ws) ≡ sum (take b' ws) + get_or ws b' 0 = sum_by_more (λ x. x) ws b' 0 within in
-      let front : take (b + 1) (take b' ws) ≡ take (b + 1) ws = take-take (b + 1) b' ws (omega arith) in
-      let first = rw front at (sum_by-take-le (λ x. x) (take b' ws) (b + 1)) in
-      let second : sum (take (b' + 1) ws) ≤ sum ws = sum_by-take-le (λ x. x) ws (b' + 1) in
-      omega (arith, first)
-  | inr past ↦
-      let none : get_or ws b' 0 ≡ 0 = get_or_past ws b' 0 past in
-      elim (cases_lt b (length ws)) [
-        | inl within ↦ let one : get_or ws b 0 ≤ sum ws = get_or-le-sum_by (λ x. x) ws b 0 within in omega arith
-        | inr past' ↦ let none' : get_or ws b 0 ≡ 0 = get_or_past ws b 0 past' in omega arith
-      ]
-]
+use Rattle.common_lemmas.proofs.Lists.{two_widths, any_at}
 
 -- tests that pass, never meet, and have at most `w` chains
 pub apart_bound_at : (soc : SocValue) (limits : LimitsValue) (plan : PlanValue) → IsGood soc limits plan → (w : ℕ) → 1 ≤ w → (p : LiveTest → Bool) (q : PlannedTest → Bool) →

@@ -12,9 +12,10 @@ use Rattle.plan_model.specs.Cells.{IsProper, chain_cells}
 use Rattle.plan_model.specs.Plans.{WrapperValue, PlanValue, wraps, of_first, chains_of}
 use Rattle.plan_model.specs.Rules.{Each, HasWrapper, HasProperCells, IsWrapped, used_pairs, pair_of}
 use Rattle.plan_model.specs.Views.{wrapper_value, chain_value}
-use Rattle.plan_model.proofs.Finding.{of_first_found, none_passes, in_filter}
-use Rattle.plan_model.proofs.Lists.{from_map, contains_at, at_contains}
+use Rattle.plan_model.proofs.Finding.{of_first_found, none_passes}
+use Rattle.plan_model.proofs.Lists.{at_contains}
 use Rattle.plan_model.proofs.PlannedTests.{Wrapped, wrapped_by, same_mode_is, wraps_from}
+use Rattle.common_lemmas.proofs.Lists.{from_map, contains_at, in_filter}
 
 -- the wrapper that is found for a module in a mode
 pub record IsFound (m : ModuleValue) (scan : Bool) (ws : List Wrapper) (k : ℕ) (w : Wrapper) : Type 0 where

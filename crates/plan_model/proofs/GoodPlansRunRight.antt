@@ -20,11 +20,12 @@ use Rattle.plan_model.proofs.OperationCounts.{ops_length}
 use Rattle.plan_model.proofs.LoadsAndReads.{IsTamTest, IsShownAt, loads_all, shows_all, shifts_all, shown_at, shown_of, cell_of, chain_is, begun_at, one_cycle}
 use Rattle.plan_model.proofs.ChainsInTheRun.{AreApart, uses_wire, at_operation}
 use Rattle.plan_model.proofs.Sums.{at_most_one}
-use Rattle.plan_model.proofs.Lists.{from_flat_map, contains_at, from_filter, from_append, slice_get-replicate}
+use Rattle.plan_model.proofs.Lists.{from_flat_map, from_filter, from_append, slice_get-replicate}
 use Rattle.plan_model.proofs.PlannedTests.{Origin, origin, IsLive, live_at, live_here}
 use Rattle.plan_model.proofs.TestsInGoodPlans.{is_tam_test, apart, all_stand}
 use Rattle.plan_model.proofs.CellsOnce.{place_once}
 use Rattle.plan_model.proofs.Greatest.{le-greatest_at, greatest-least}
+use Rattle.common_lemmas.proofs.Lists.{contains_at}
 
 -- ---- no two response bits at one place
 

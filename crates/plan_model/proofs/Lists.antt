@@ -5,6 +5,7 @@ use Rattle.std.specs.List.{flat_map, filter, list_any, Contains}
 use Rattle.std.proofs.lemmas.List.{length-take-le, get_or-take}
 use Rattle.std.proofs.lemmas.Bool.{cases_Bool, or_left, or_right, or_cases, or_parts}
 use Rattle.std.proofs.lemmas.Option.{slice_get-get_or, slice_get_within, get_or_from_slice_get}
+use Rattle.common_lemmas.proofs.Lists.{at_left}
 
 -- ---- joined, mapped and filtered lists
 
@@ -13,19 +14,9 @@ from_append [] ys i x e = inr (i, sym (zero-add i), e)
 from_append (y ∷ xs) ys zero x e = inl e
 from_append (y ∷ xs) ys (suc i) x e = elim (from_append xs ys i x e) [ inl a ↦ inl a | inr b ↦ inr (b.0, omega arith, b.2) ]
 
-pub in_append_left : {X : Type 0} (xs ys : List X) (i : ℕ) (x : X) → slice_get xs i ≡ Some x → slice_get (xs ++ ys) i ≡ Some x
-in_append_left [] ys i x e = absurd cc
-in_append_left (y ∷ xs) ys zero x e = e
-in_append_left (y ∷ xs) ys (suc i) x e = in_append_left xs ys i x e
-
 pub in_append_right : {X : Type 0} (xs ys : List X) (i : ℕ) (x : X) → slice_get ys i ≡ Some x → (n : ℕ) × (slice_get (xs ++ ys) n ≡ Some x)
 in_append_right [] ys i x e = (i, e)
 in_append_right (y ∷ xs) ys i x e = let r = in_append_right xs ys i x e in (suc r.0, r.1)
-
-pub from_map : {X Y : Type 0} (f : X → Y) (xs : List X) (i : ℕ) (y : Y) → slice_get (map f xs) i ≡ Some y → (x : X) × (slice_get xs i ≡ Some x) × (f x ≡ y)
-from_map f [] i y e = absurd cc
-from_map f (x ∷ xs) zero y e = (x, refl, cc)
-from_map f (x ∷ xs) (suc i) y e = from_map f xs i y e
 
 pub from_flat_map : {X Y : Type 0} (f : X → List Y) (xs : List X) (n : ℕ) (y : Y) → slice_get (flat_map f xs) n ≡ Some y → (i : ℕ) × (x : X) × (j : ℕ) × (slice_get xs i ≡ Some x) × (slice_get (f x) j ≡ Some y)
 from_flat_map f [] n y e = absurd cc
@@ -38,7 +29,7 @@ pub in_flat_map : {X Y : Type 0} (f : X → List Y) (xs : List X) (i j : ℕ) (x
 in_flat_map f [] i j x y e h = absurd cc
 in_flat_map f (z ∷ xs) zero j x y e h =
     let same : z ≡ x = cc in
-    (j, in_append_left (f z) (flat_map f xs) j y (rw same h))
+    (j, at_left (f z) (flat_map f xs) j y (rw same h))
 in_flat_map f (z ∷ xs) (suc i) j x y e h =
     let r = in_flat_map f xs i j x y e h in
     in_append_right (f z) (flat_map f xs) r.0 y r.1
@@ -56,9 +47,6 @@ from_filter p (y ∷ xs) n x e = elim (cases_Bool (p y)) [
 
 -- ---- members and tests
 
-pub contains_at : {X : Type 0} (xs : List X) (x : X) → Contains xs x → (k : ℕ) × (slice_get xs k ≡ Some x)
-contains_at xs x c = (c.0, rw c.2 at (slice_get-get_or xs c.0 x c.1))
-
 pub at_contains : {X : Type 0} (xs : List X) (n : ℕ) (x : X) → slice_get xs n ≡ Some x → Contains xs x
 at_contains xs n x at = (n, slice_get_within xs n x at, get_or_from_slice_get xs n x x at)
 
@@ -66,13 +54,6 @@ pub any_from : {X : Type 0} (p : X → Bool) (xs : List X) (n : ℕ) (x : X) →
 any_from p [] n x e h = absurd cc
 any_from p (y ∷ xs) zero x e h = let same : y ≡ x = cc in or_left (p y) (list_any p xs) (rw same h)
 any_from p (y ∷ xs) (suc n) x e h = or_right (p y) (list_any p xs) (any_from p xs n x e h)
-
-pub any_at : {X : Type 0} (p : X → Bool) (xs : List X) → list_any p xs ≡ true → (n : ℕ) × (x : X) × (slice_get xs n ≡ Some x) × (p x ≡ true)
-any_at p [] h = absurd cc
-any_at p (x ∷ xs) h = elim (or_cases (p x) (list_any p xs) h) [
-  | inl here ↦ (0, x, refl, here)
-  | inr later ↦ let r = any_at p xs later in (suc r.0, r.1, r.2, r.3)
-]
 
 pub none_of : {X : Type 0} (p : X → Bool) (xs : List X) → list_any p xs ≡ false → (i : ℕ) (x : X) → slice_get xs i ≡ Some x → p x ≡ false
 none_of p [] h i x e = absurd cc

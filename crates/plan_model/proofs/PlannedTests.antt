@@ -11,7 +11,8 @@ use Rattle.plan_model.specs.Cells.{chain_cells}
 use Rattle.plan_model.specs.Plans.{WrapperValue, PlanValue, LimitsValue, PlannedTest, planned, planned_test, chains_of, of_first, wraps, same_mode}
 use Rattle.plan_model.specs.Right.{IsAt}
 use Rattle.plan_model.specs.Rules.{IsGood, Wrappers, Each, HasWrapper, used_pairs, uses_mode, mode_pair, pair_of}
-use Rattle.plan_model.proofs.Lists.{from_append, from_map, contains_at, from_filter, any_from, in_append_left, in_append_right, in_flat_map}
+use Rattle.plan_model.proofs.Lists.{from_append, from_filter, any_from, in_append_right, in_flat_map}
+use Rattle.common_lemmas.proofs.Lists.{from_map, contains_at, at_left}
 
 -- ---- where an item of joined lists comes from
 
@@ -124,7 +125,7 @@ same_mode_itself true = refl
 same_mode_itself false = refl
 
 pub pair_used : (m : ModuleValue) (scan : Bool) → uses_mode scan m ≡ true → (j : ℕ) × (slice_get (mode_pair true m ++ mode_pair false m) j ≡ Some (m.number, scan))
-pair_used m true used = (0, in_append_left (mode_pair true m) (mode_pair false m) 0 (m.number, true) (rw used refl))
+pair_used m true used = (0, at_left (mode_pair true m) (mode_pair false m) 0 (m.number, true) (rw used refl))
 pair_used m false used = in_append_right (mode_pair true m) (mode_pair false m) 0 (m.number, false) (rw used refl)
 
 wrapper_found : (plan : PlanValue) (m : ModuleValue) (test : Test) (k : ℕ) (w : WrapperValue) → test.tam ≡ true → slice_get plan.wrappers k ≡ Some w → pair_of w ≡ (m.number, test.scan) → Wrapped plan m test

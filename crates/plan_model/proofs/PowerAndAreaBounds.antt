@@ -18,9 +18,9 @@ use Rattle.plan_model.proofs.SumsOverCycles.{while_active, sum_while_active, sum
 use Rattle.plan_model.proofs.CellOrder.{length-dealt}
 use Rattle.plan_model.proofs.LowerTimes.{quotient_up-le}
 use Rattle.plan_model.proofs.PlannedTests.{Origin, Wrapped, wrapped}
-use Rattle.plan_model.proofs.Lists.{from_map}
 use Rattle.plan_model.proofs.TurnBounds.{planned_lower, fit_at, live-le-planned, end-le-cycles, origin_at, width_fits, planned_chains, place_says}
 use Rattle.plan_model.proofs.TestsInGoodPlans.{on_bus, planned_tam}
+use Rattle.common_lemmas.proofs.Lists.{from_map}
 
 -- ---- Power
 

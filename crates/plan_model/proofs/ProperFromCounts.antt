@@ -13,6 +13,7 @@ use Rattle.plan_model.specs.Listing.{times}
 use Rattle.plan_model.specs.Cells.{In, Out, ChainValue, in_cells, out_cells, flops, dealt, scan_lengths, IsProper}
 use Rattle.plan_model.proofs.Sums.{one_if, item-le-sum_by, some_passes}
 use Rattle.plan_model.proofs.Lists.{split_at, in_split}
+use Rattle.common_lemmas.proofs.Ranges.{range_split}
 
 -- the terminals that chains take, and the scan chains that they list
 abbrev pub all_ins : List ChainValue → ℕ
@@ -23,16 +24,6 @@ all_outs cs = sum_by (λ (c : ChainValue). c.outs) cs
 
 abbrev pub all_scans : List ChainValue → List ℕ
 all_scans cs = flat_map (λ (c : ChainValue). c.scans) cs
-
-range-append : (i a b : ℕ) → range_with_len i (a + b) ≡ range_with_len i a ++ range_with_len (i + a) b
-range-append i zero b =
-    let e : 0 + b ≡ b = omega arith in
-    let f : i + 0 ≡ i = omega arith in
-    rw (e, f) refl
-range-append i (suc a) b =
-    let e : suc a + b ≡ suc (a + b) = omega arith in
-    let f : i + suc a ≡ (i + 1) + a = omega arith in
-    rw (e, f) (ap (λ v. i ∷ v) (range-append (i + 1) a b))
 
 -- the two middle parts change places
 mid_swap : {X : Type 0} (x y z w : List X) → IsPermutation ((x ++ y) ++ (z ++ w)) ((x ++ z) ++ (y ++ w))
@@ -55,9 +46,9 @@ pub dealt_cells : (lengths : List ℕ) (i o : ℕ) (cs : List ChainValue) → Is
 dealt_cells lengths i o [] = IsPermutation-refl []
 dealt_cells lengths i o (c ∷ cs) =
     let ins : in_cells i (all_ins (c ∷ cs)) ≡ in_cells i c.ins ++ in_cells (i + c.ins) (all_ins cs) =
-    ap (in_cells i) (sum_by-cons (λ (c : ChainValue). c.ins) c cs) ∙ ap (map (λ k. In k)) (range-append i c.ins (all_ins cs)) ∙ map-append (λ k. In k) (range_with_len i c.ins) (range_with_len (i + c.ins) (all_ins cs)) in
+    ap (in_cells i) (sum_by-cons (λ (c : ChainValue). c.ins) c cs) ∙ ap (map (λ k. In k)) (range_split i c.ins (all_ins cs)) ∙ map-append (λ k. In k) (range_with_len i c.ins) (range_with_len (i + c.ins) (all_ins cs)) in
     let outs : out_cells o (all_outs (c ∷ cs)) ≡ out_cells o c.outs ++ out_cells (o + c.outs) (all_outs cs) =
-    ap (out_cells o) (sum_by-cons (λ (c : ChainValue). c.outs) c cs) ∙ ap (map (λ k. Out k)) (range-append o c.outs (all_outs cs)) ∙ map-append (λ k. Out k) (range_with_len o c.outs) (range_with_len (o + c.outs) (all_outs cs)) in
+    ap (out_cells o) (sum_by-cons (λ (c : ChainValue). c.outs) c cs) ∙ ap (map (λ k. Out k)) (range_split o c.outs (all_outs cs)) ∙ map-append (λ k. Out k) (range_with_len o c.outs) (range_with_len (o + c.outs) (all_outs cs)) in
     let scans : flat_map (flops lengths) (all_scans (c ∷ cs)) ≡ flat_map (flops lengths) c.scans ++ flat_map (flops lengths) (all_scans cs) = flat_map-append (flops lengths) c.scans (all_scans cs) in
     same_parts (in_cells i (all_ins (c ∷ cs))) (in_cells i c.ins ++ in_cells (i + c.ins) (all_ins cs)) (flat_map (flops lengths) (all_scans (c ∷ cs))) (flat_map (flops lengths) c.scans ++ flat_map (flops lengths) (all_scans cs)) (out_cells o (all_outs (c ∷ cs))) (out_cells o c.outs ++ out_cells (o + c.outs) (all_outs cs))
     (flat_map (λ cells. cells) (dealt lengths i o (c ∷ cs))) ins scans outs
@@ -140,7 +131,7 @@ rest_of n xs p q parts h = rest_once n p q (subst (ListsOnce (suc n)) parts h)
 last_brought : (n : ℕ) (xs p q : List ℕ) → xs ≡ p ++ n ∷ q → Moves (range_with_len 0 n) (p ++ q) → Moves (range_with_len 0 (suc n)) xs
 last_brought n xs p q parts moves =
     let e : n + 1 ≡ suc n = omega arith in
-    let front : range_with_len 0 n ++ (n ∷ []) ≡ range_with_len 0 (suc n) = ap (λ v. range_with_len 0 n ++ (v ∷ [])) (sym (zero-add n)) ∙ sym (range-append 0 n 1) ∙ ap (range_with_len 0) e in
+    let front : range_with_len 0 n ++ (n ∷ []) ≡ range_with_len 0 (suc n) = ap (λ v. range_with_len 0 n ++ (v ∷ [])) (sym (zero-add n)) ∙ sym (range_split 0 n 1) ∙ ap (range_with_len 0) e in
     let rest : Moves (range_with_len 0 n ++ []) (p ++ q) = subst (λ v. Moves v (p ++ q)) (sym (append-nil (range_with_len 0 n))) moves in
     let whole : Moves (range_with_len 0 n ++ (n ∷ [])) (p ++ n ∷ q) = Then (bring n (range_with_len 0 n) n []) (Then (Keep n rest) (bring_back n p n q)) in
     subst (λ v. Moves v xs) front (subst (λ v. Moves (range_with_len 0 n ++ (n ∷ [])) v) (sym parts) whole)

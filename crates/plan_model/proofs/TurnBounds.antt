@@ -9,7 +9,6 @@ use Rattle.std.proofs.lemmas.Option.{slice_get-get_or, slice_get-map}
 use Rattle.soc_model.specs.declared.Test.{Test}
 use Rattle.soc_model.specs.Chips.{ModuleValue, SocValue, LiveTest, IsParent, is_live, live_tests, id_of}
 use Rattle.plan_model.specs.Cells.{chain_cells, IsProper, scan_lengths}
-use Rattle.soc_model.proofs.Sums.{sum_by-map}
 use Rattle.plan_model.specs.Plans.{BusValue, WrapperValue, PlanValue, LimitsValue, PlannedTest, planned, planned_test, chains_of, operations_of, widths, end_of, IsActive}
 use Rattle.plan_model.specs.Right.{IsAt}
 use Rattle.plan_model.specs.Rules.{IsGood, IsBound, Widths, Proper, Busy, Parents, Cycles, Precedences}
@@ -18,12 +17,13 @@ use Rattle.plan_model.proofs.CertificatesByPlace.{IsChain, AllLive, chain_bound}
 use Rattle.plan_model.proofs.SumsOverCycles.{disjoint_bound}
 use Rattle.plan_model.proofs.LowerTimes.{lower_time-le}
 use Rattle.plan_model.proofs.PlannedTests.{Origin, IsLive, live_at, Wrapped, wrapped}
-use Rattle.plan_model.proofs.Lists.{from_filter, from_map, contains_at}
+use Rattle.plan_model.proofs.Lists.{from_filter}
 use Rattle.plan_model.proofs.CellOrder.{length-dealt}
 use Rattle.plan_model.proofs.TestsInGoodPlans.{planned_fit, on_bus}
 use Rattle.plan_model.proofs.Greatest.{le-greatest_at}
 use Rattle.plan_model.proofs.GoodPlansRunRight.{planned_place, planned_in_order}
 use Rattle.plan_model.proofs.Sums.{sum_by-le_at, sum_by-or}
+use Rattle.common_lemmas.proofs.Lists.{from_map, contains_at, sum_map}
 
 -- ---- a planned test takes its lower time
 
@@ -90,7 +90,7 @@ fit_at soc limits plan good i t o =
 pub live-le-planned : (soc : SocValue) (plan : PlanValue) (f : LiveTest → ℕ) (g : PlannedTest → ℕ) → ((i : ℕ) (t : PlannedTest) (o : Origin soc plan i t) → f o.l ≤ g t) → sum_by f (live_tests soc) ≤ sum_by g (planned soc plan)
 unfolding planned
 live-le-planned soc plan f g h =
-    let split : sum_by g (map (λ (l : LiveTest). planned_test plan l.place l.core l.test) (live_tests soc)) ≡ sum_by (λ (l : LiveTest). g (planned_test plan l.place l.core l.test)) (live_tests soc) = sum_by-map g (λ (l : LiveTest). planned_test plan l.place l.core l.test) (live_tests soc) in
+    let split : sum_by g (map (λ (l : LiveTest). planned_test plan l.place l.core l.test) (live_tests soc)) ≡ sum_by (λ (l : LiveTest). g (planned_test plan l.place l.core l.test)) (live_tests soc) = sum_map g (λ (l : LiveTest). planned_test plan l.place l.core l.test) (live_tests soc) in
     rw split (sum_by-le_at f (λ (l : LiveTest). g (planned_test plan l.place l.core l.test)) (live_tests soc) (λ i l at.
     let o : IsLive soc.modules 0 l = live_at soc.modules 0 i l at in
     let same : o.up ≡ l.place = omega (arith, o.place_is) in

@@ -23,17 +23,14 @@ use Rattle.bit_machine.proofs.GoodWires.{good_wires}
 use Rattle.bit_machine.proofs.HeldStimuli.{stimulus_is_held}
 use Rattle.plan_simulator.specs.Runs.{right_loads_in, wired_patterns}
 use Rattle.plan_simulator.proofs.CaptureCounts.{captures_are_patterns}
+use Rattle.common_lemmas.proofs.Lists.{map_twice}
 
 -- ---- each cell has its bit
-
-map_over : {X Y Z : Type 0} (g : Y → Z) (f : X → Y) (xs : List X) → map g (map f xs) ≡ map (λ x. g (f x)) xs
-map_over g f [] = refl
-map_over {Z = Z} g f (x ∷ xs) = ap (λ (zs : List Z). g (f x) ∷ zs) (map_over g f xs)
 
 -- the lengths of the chains of a test
 lengths_of : (t : PlannedTest) (bits : ℕ → List Bool) → ((j : ℕ) → j < length t.chains → length (bits j) ≡ length (chain_at t j)) → map (λ (b : List Bool). length b) (map bits (range_with_len 0 (length t.chains))) ≡ map (λ (cells : List Cell). length cells) t.chains
 lengths_of t bits long =
-    map_over (λ (b : List Bool). length b) bits (range_with_len 0 (length t.chains))
+    map_twice (λ (b : List Bool). length b) bits (range_with_len 0 (length t.chains))
     ∙ sym (fill_by_all (λ j. length (bits j)) (map (λ (cells : List Cell). length cells) t.chains) (length t.chains) 0 (length-map t.chains (λ (cells : List Cell). length cells))
     (λ j less. get_or-map (λ (cells : List Cell). length cells) t.chains j [] 0 less ∙ sym (long j less)))
 

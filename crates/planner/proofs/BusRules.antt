@@ -8,12 +8,11 @@ use Rattle.std.proofs.lemmas.List.Sums.{sum_by-cons, sum_by-append, sum_by_more_
 use Rattle.std.proofs.lemmas.Option.{get_or_from_slice_get, slice_get_within, slice_get-get_or, slice_get-map}
 use Rattle.soc_model.specs.Chips.{ModuleValue, SocValue, numbers}
 use Rattle.soc_model.specs.SoundChips.{AllDiffer}
-use Rattle.soc_model.proofs.Sums.{sum_by-map}
 use Rattle.plan_model.specs.Plans.{BusValue, LimitsValue, has_module}
 use Rattle.plan_model.specs.Rules.{Each, FitsWires, IsNew}
 use Rattle.soc_model.specs.Modes.{has_tam}
 use Rattle.plan_model.specs.Certificates.{passes, has_tam_at}
-use Rattle.plan_model.proofs.Lists.{from_map, from_flat_map, contains_at, at_contains, any_from}
+use Rattle.plan_model.proofs.Lists.{from_flat_map, at_contains, any_from}
 use Rattle.plan_model.proofs.Sums.{item-le-sum_by, two-le-sum_by, some_passes}
 use Rattle.plan_model.proofs.PlannedTests.{of_first_is}
 use Rattle.width_table.specs.Tables.{TableValue, IsTable, places_of}
@@ -22,8 +21,7 @@ use Rattle.bus_model.specs.Sound.{IsSoundArch, times_listed, times_on_buses, wir
 use Rattle.bus_model.proofs.Times.{listed-in_range}
 use Rattle.planner.specs.Buses.{number_at, plan_bus, plan_buses}
 use Rattle.planner.specs.Wrapping.{bus_width}
-use Rattle.resource_table.proofs.Places.{all_at, all_from}
-use Rattle.planner.proofs.Lists.{from_take}
+use Rattle.common_lemmas.proofs.Lists.{from_take, all_at, all_from, from_map, contains_at, sum_map}
 
 -- ---- the places on all buses, and the numbers at places
 
@@ -72,7 +70,7 @@ module _ (table : TableValue) (buses : List arch.BusValue) (sound : IsSoundArch 
       let wide : 1 ≤ (b.0).width = all_at (λ (bus : arch.BusValue). 1 ≤ bus.width) buses n b.0 sound.wide b.1 in
       let here : (b.0).width ≡ x.width = ap (λ (v : BusValue). v.width) b.2 in
       let front = rw (get_or_from_slice_get (plan_buses table.soc buses) n x x at) at (sum_by_more_le (λ (v : BusValue). v.width) (plan_buses table.soc buses) n x (slice_get_within (plan_buses table.soc buses) n x at)) in
-      let all : sum_by (λ (v : BusValue). v.width) (plan_buses table.soc buses) ≡ wires_used buses = sum_by-map (λ (v : BusValue). v.width) (plan_bus table.soc) buses in
+      let all : sum_by (λ (v : BusValue). v.width) (plan_buses table.soc buses) ≡ wires_used buses = sum_map (λ (v : BusValue). v.width) (plan_bus table.soc) buses in
       (omega arith, omega (arith, sound.fits))
 
   -- each due place once, and no other

@@ -9,13 +9,13 @@ use Rattle.soc_model.specs.declared.TestId.{TestId}
 use Rattle.soc_model.specs.Chips.{SocValue, live_tests, id_of, same_test}
 use Rattle.plan_model.specs.Plans.{PlanValue, LimitsValue}
 use Rattle.plan_model.specs.Rules.{live_ids}
-use Rattle.plan_model.proofs.Lists.{from_flat_map, in_flat_map, contains_at, at_contains}
+use Rattle.plan_model.proofs.Lists.{from_flat_map, in_flat_map, at_contains}
 use Rattle.plan_model.proofs.CertificatesAreBounds.{same_test_is, is_same_test}
 use Rattle.plan_model.proofs.Finding.{none_passes}
 use Rattle.resource_table.specs.Jobs.{Precedes}
-use Rattle.resource_table.proofs.Places.{all_from}
 use Rattle.live_tests.specs.Names.{AllDiffer, both_places, places_of}
 use Rattle.planner.specs.Jobs.{job_of}
+use Rattle.common_lemmas.proofs.Lists.{all_from, contains_at}
 
 pub no_id : TestId
 no_id = record { «module» = 0; test = 0 }

@@ -10,10 +10,7 @@ use Rattle.soc_model.specs.declared.Test.{Test}
 use Rattle.soc_model.specs.Chips.{ModuleValue, LiveTest, is_live, live_from}
 use Rattle.resource_table.specs.declared.JobTest.{JobTest}
 use Rattle.resource_table.specs.Jobs.{TestValue, test_value}
-
-map_twice : {X Y Z : Type 0} (f : Y → Z) (g : X → Y) (xs : List X) → map f (map g xs) ≡ map (λ x. f (g x)) xs
-map_twice f g [] = refl
-map_twice f g (x ∷ xs) = ap (λ ys. f (g x) ∷ ys) (map_twice f g xs)
+use Rattle.common_lemmas.proofs.Lists.{map_twice}
 
 -- one module more
 pub tests_more : (f : LiveTest → TestValue) (old new whole : List TestValue) (place : ℕ) (ms : List ModuleValue) (m : ModuleValue) → new ≡ old ++ map (λ (t : Test). f (record { place = place; core = m; test = t })) (filter is_live m.tests) → slice_get ms place ≡ Some m

@@ -6,15 +6,15 @@ use Rattle.std.proofs.lemmas.Option.{slice_get-map}
 use Rattle.soc_model.specs.Chips.{ModuleValue, numbers}
 use Rattle.plan_model.specs.Plans.{BusValue, WrapperValue, PlanValue, LimitsValue}
 use Rattle.plan_model.specs.Rules.{Each, FitsWires, IsKnown, IsNew, IsListed, listed, named}
-use Rattle.plan_model.proofs.Lists.{from_append, from_map, at_contains}
+use Rattle.plan_model.proofs.Lists.{from_append, at_contains}
 use Rattle.width_table.specs.Tables.{TableValue, IsTable}
 use Rattle.bus_model.proofs.Times.{due-one}
 use Rattle.planner.specs.Parts.{KeepsPartRules}
 use Rattle.planner.specs.Buses.{AreSettledBuses, number_at}
 use Rattle.planner.specs.Wrapping.{HaveWidths, IsWrapperOnBus, AreTableWrappers}
-use Rattle.resource_table.proofs.Places.{all_at}
 use Rattle.planner.proofs.BusRules.{fit_wires, all_places, numbers_listed, once_all, all_in_range, number_there, differ_new, listed_number, width_within}
 use Rattle.planner.proofs.WrapperRules.{all_fitting, all_have, all_proper}
+use Rattle.common_lemmas.proofs.Lists.{all_at, from_map}
 
 -- each module with a test over the wires has its width
 pub have_widths : (table : TableValue) (buses : List BusValue) → AreSettledBuses table buses → HaveWidths table buses

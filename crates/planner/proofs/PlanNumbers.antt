@@ -19,7 +19,7 @@ use Rattle.soc_model.specs.Modes.{scan_lengths}
 use Rattle.plan_model.specs.Plans.{BusValue, WrapperValue, WhyValue, OfModule, OfPair, OfChain, OfArea, OfPower, OfForced, PlanValue, LimitsValue}
 use Rattle.plan_model.specs.Rules.{Each, StartsOnce, FitsWires, live_ids, listed}
 use Rattle.plan_model.specs.Views.{chain_value, wrapper_value}
-use Rattle.plan_model.proofs.Lists.{from_map, contains_at, in_append_left, in_flat_map}
+use Rattle.plan_model.proofs.Lists.{in_flat_map}
 use Rattle.plan_model.proofs.Sums.{item-le-sum_by}
 use Rattle.plan_model.proofs.ProperByCounts.{IsCounted, proper_is_counted, all_within}
 use Rattle.wrapper_design.proofs.Laws.{design_proper}
@@ -28,12 +28,7 @@ use Rattle.bound_certificate.proofs.NamesInRange.{numbers_in_range}
 use Rattle.plan_text.specs.Grammar.{IsBusInRange, IsChainInRange, IsWrapperInRange, IsTestInRange, IsStartInRange, IsReasonInRange}
 use Rattle.planner.specs.Parts.{KeepsPartRules}
 use Rattle.planner.specs.Wrapping.{IsWrapperOnBus, AreTableWrappers}
-use Rattle.resource_table.proofs.Places.{all_at, all_from}
-
-each_passes : {X : Type 0} (p : X → Bool) (xs : List X) → list_all p xs ≡ true → (i : ℕ) (x : X) → slice_get xs i ≡ Some x → p x ≡ true
-each_passes p [] h i x at = absurd cc
-each_passes p (y ∷ xs) h zero x at = let same : y ≡ x = cc in rw (← same) ((and_parts (p y) (list_all p xs) h).0)
-each_passes p (y ∷ xs) h (suc i) x at = each_passes p xs ((and_parts (p y) (list_all p xs) h).1) i x at
+use Rattle.common_lemmas.proofs.Lists.{passes_at, all_at, all_from, from_map, contains_at, at_left}
 
 pub reason_in_range : (why : WhyValue) → HasPlanNumbers why → IsReasonInRange why
 reason_in_range (OfModule m) h = h
@@ -65,7 +60,7 @@ module _ (soc : SocValue) (sound : IsSoundChip soc) where
   chain_in_range : (k : ℕ) (m : ModuleValue) (scan : Bool) → slice_get soc.modules k ≡ Some m → (chains : List ChainPlan) → IsCounted m scan chains → (j : ℕ) (c : ChainPlan) → slice_get chains j ≡ Some c → IsChainInRange (chain_value c)
   chain_in_range k m scan at chains counted j c there =
       let small : IsSmall m = all_at IsSmall soc.modules k m (modules-small soc sound.small) at in
-      let below = each_passes (λ (c : ChainPlan). list_all (λ x. nat_lt x (length (scan_lengths m scan))) c.scans.items) chains counted.below j c there in
+      let below = passes_at (λ (c : ChainPlan). list_all (λ x. nat_lt x (length (scan_lengths m scan))) c.scans.items) chains counted.below j c there in
       record {
         ins = omega (arith, counted.ins, item-le-sum_by (λ (c : ChainPlan). c.ins) chains j c there);
         outs = omega (arith, counted.outs, item-le-sum_by (λ (c : ChainPlan). c.outs) chains j c there);
@@ -96,7 +91,7 @@ buses_in_range soc limits plan sound few keeps = all_from IsBusInRange plan.buse
       width = omega (arith, fits.1);
       modules = all_from (λ n. n ≤ PLAN_NUMBER_MOST) b.modules (λ j n there.
           let at' = in_flat_map (λ (b : BusValue). b.modules) plan.buses k j b n at there in
-          let named = in_append_left (listed plan) (map (λ (w : WrapperValue). w.«module») plan.wrappers) at'.0 n at'.1 in
+          let named = at_left (listed plan) (map (λ (w : WrapperValue). w.«module») plan.wrappers) at'.0 n at'.1 in
           known_small soc sound n (keeps.known at'.0 n named));
     })
 

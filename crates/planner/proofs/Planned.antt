@@ -13,7 +13,7 @@ use Rattle.plan_model.specs.Right.{IsAt, Meet}
 use Rattle.plan_model.specs.Rules.{Each, NoClash, ShareBus, ShareModule, AreParentAndChild, InOrder, WithinPower, StartsOnce, HasStart, live_ids}
 use Rattle.plan_model.proofs.CertificatesAreBounds.{same_test_is, is_same_test}
 use Rattle.plan_model.proofs.Greatest.{le-greatest_at, greatest-least}
-use Rattle.plan_model.proofs.Lists.{from_map, contains_at, at_contains}
+use Rattle.plan_model.proofs.Lists.{at_contains}
 use Rattle.plan_model.proofs.PlannedTests.{of_first_is}
 use Rattle.plan_model.proofs.Sums.{sum_by-filter, sum_by-or, sum_by-le_at, item-le-sum_by}
 use Rattle.resource_table.specs.declared.Placement.{Placement}
@@ -26,7 +26,8 @@ use Rattle.planner.specs.Jobs.{test_of, job_of}
 use Rattle.schedule_search.specs.Orders.{IsTopological}
 use Rattle.planner.specs.Schedules.{start_of, KeepsTimes}
 use Rattle.planner.proofs.JobPrecedences.{to_job}
-use Rattle.planner.proofs.Lists.{from_take}
+use Rattle.common_lemmas.proofs.Options.{if_fewer}
+use Rattle.common_lemmas.proofs.Lists.{from_take, from_map, contains_at}
 
 -- ---- tests that exclude each other
 
@@ -93,10 +94,6 @@ steps_power (p ∷ ps) id own r = elim (cases_Bool (same_test p.test id)) [
   | inl yes' ↦ rw yes' refl
   | inr no' ↦ rw no' (steps_power ps id own r)
 ]
-
-within_less : (limit : Option ℕ) (a b : ℕ) → a ≤ b → IfSome limit (λ most. b ≤ most) → IfSome limit (λ most. a ≤ most)
-within_less None a b less h = tt
-within_less (Some most) a b less h = omega (arith, less, h)
 
 -- ---- the plan of placed tests
 
@@ -270,7 +267,7 @@ module _ (soc : SocValue) (limits : LimitsValue) (plan : PlanValue) (placed : Li
       let same : drawn_planned c u ≡ drawn job c b.p = ap (drawn_planned c) (sym l.2) ∙ drawn_same i c l.0 l.1 b in
       (b.n, b.p, b.there, b.p_is, omega (arith, same))) in
       let all : power_at_planned limits tests c ≡ sum_by (drawn_planned c) tests = sum_by-filter (is_active_planned c) (λ u. power_of_planned limits u (c - u.start)) tests in
-      within_less limits.power (power_at_planned limits tests c) (power_at job placed c) (omega (arith, less, all)) (sound_power table c laid.sound)
+      if_fewer limits.power (power_at_planned limits tests c) (power_at job placed c) (omega (arith, less, all)) (sound_power table c laid.sound)
 
   -- ---- starts and ends
 

@@ -9,7 +9,6 @@ use Rattle.soc_model.specs.Chips.{SocValue}
 use Rattle.soc_model.specs.SoundChips.{IsSoundChip}
 use Rattle.plan_model.specs.Plans.{LimitsValue}
 use Rattle.plan_model.specs.Views.{bus_value, wrapper_value}
-use Rattle.plan_model.proofs.Lists.{from_map}
 use Rattle.plan_model.proofs.Greatest.{le-greatest_at}
 use Rattle.resource_table.specs.declared.Placement.{Placement}
 use Rattle.resource_table.specs.declared.JobTest.{JobTest}
@@ -17,7 +16,6 @@ use Rattle.resource_table.specs.Jobs.{TestValue, JobValue, test_value, test_at, 
 use Rattle.resource_table.specs.Schedules.{end_of, last_end, IsSoundTable}
 use Rattle.resource_table.proofs.Fitting.{last_small}
 use Rattle.resource_table.proofs.KeptStarts.{wanted_is}
-use Rattle.resource_table.proofs.Places.{all_from}
 use Rattle.live_tests.proofs.LiveIds.{ids_differ}
 use Rattle.schedule_search.specs.Orders.{IsTopological}
 use Rattle.schedule_search.specs.Found.{HasStarts, IsFound}
@@ -29,6 +27,7 @@ use Rattle.planner.specs.Jobs.{settled_parts, job_of}
 use Rattle.planner.specs.Schedules.{start_of, IsFoundList}
 use Rattle.planner.specs.Wirings.{plan_of, IsScheduled}
 use Rattle.planner.proofs.Planned.{keeps_times}
+use Rattle.common_lemmas.proofs.Lists.{all_from, from_map}
 
 -- ---- starts, one after another
 

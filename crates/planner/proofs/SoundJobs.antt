@@ -20,14 +20,14 @@ use Rattle.plan_model.specs.Rules.{Each, HasWrapper, HasProperCells, used_pairs,
 use Rattle.plan_model.specs.SoundLimits.{Grow, IsSoundProfile, IsSoundLimits}
 use Rattle.plan_model.specs.Views.{wrapper_value}
 use Rattle.plan_model.proofs.GoodPlansRunRight.{planned_some}
-use Rattle.plan_model.proofs.Lists.{from_map, from_filter, in_flat_map, at_contains}
+use Rattle.plan_model.proofs.Lists.{from_filter, in_flat_map, at_contains}
 use Rattle.plan_model.proofs.PlannedTests.{IsLive, live_at}
 use Rattle.plan_model.proofs.ShortTests.{live_patterns, short_test}
 use Rattle.resource_table.specs.Jobs.{TestValue, IsSoundTest, IsSoundJob}
-use Rattle.resource_table.proofs.Places.{all_from}
 use Rattle.resource_table.proofs.Steps.{step_late}
 use Rattle.planner.specs.Jobs.{settled_parts, steps_of, test_of, job_of}
 use Rattle.planner.proofs.JobPrecedences.{no_id, places_in_range, acyclic_job}
+use Rattle.common_lemmas.proofs.Lists.{all_from, from_map}
 
 -- ---- cycles
 

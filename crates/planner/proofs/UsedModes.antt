@@ -16,7 +16,7 @@ use Rattle.plan_model.specs.Views.{wrapper_value}
 use Rattle.plan_model.specs.Rules.{pair_of, used_pairs, mode_pair}
 use Rattle.soc_model.specs.Modes.{uses_mode}
 use Rattle.soc_model.specs.Modes.{has_tam}
-use Rattle.plan_model.proofs.Lists.{any_at, any_from}
+use Rattle.plan_model.proofs.Lists.{any_from}
 use Rattle.width_table.specs.Tables.{TableValue}
 use Rattle.wrapper_design.specs.Design.{mode_of, design}
 use Rattle.width_table.specs.Times.{mode_time, IsChosen}
@@ -24,6 +24,7 @@ use Rattle.width_table.proofs.LeastWidths.{chosen_first, chosen_new, chosen_old}
 use Rattle.planner.specs.declared.wrappers.UsedMode.{UsedMode}
 use Rattle.planner.specs.Wrapping.{bus_width, HaveWidths, IsWrapperOnBus, IsUsedMode, AreUsedModes, AreTableWrappers, mode_of_module}
 use Rattle.planner.proofs.BusRules.{number_of}
+use Rattle.common_lemmas.proofs.Lists.{any_at}
 
 abbrev pub pairs_in : ModuleValue → List (ℕ × Bool)
 pairs_in m = mode_pair true m ++ mode_pair false m

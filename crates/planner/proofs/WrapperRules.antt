@@ -13,13 +13,13 @@ use Rattle.plan_model.specs.Plans.{BusValue, WrapperValue, PlanValue, has_module
 use Rattle.soc_model.specs.Modes.{same_mode}
 use Rattle.plan_model.specs.Rules.{Each, IsNew, IsFitting, HasWrapper, HasProperCells, pair_of, used_pairs, mode_pair}
 use Rattle.soc_model.specs.Modes.{uses_mode}
-use Rattle.plan_model.proofs.Lists.{contains_at, at_contains}
+use Rattle.plan_model.proofs.Lists.{at_contains}
 use Rattle.plan_model.proofs.Sums.{sum_by-le_at, two-le-sum_by, at_most_one, one_if}
 use Rattle.wrapper_design.specs.Design.{mode_of, design}
 use Rattle.wrapper_design.proofs.Laws.{design_width, design_proper}
 use Rattle.planner.specs.Wrapping.{bus_width, IsWrapperOnBus, AreTableWrappers}
-use Rattle.resource_table.proofs.Places.{all_at}
-use Rattle.planner.proofs.Lists.{from_take, count_flat}
+use Rattle.planner.proofs.Lists.{count_flat}
+use Rattle.common_lemmas.proofs.Lists.{from_take, all_at, contains_at}
 
 -- ---- the width of the first bus that lists a module, by its place
 

@@ -11,6 +11,7 @@ use Rattle.std.proofs.lemmas.Option.{slice_get_within, slice_get-get_or, get_or_
 use Rattle.power_events.specs.declared.Event.{Event}
 use Rattle.power_events.specs.Events.{upto, begun_by, ended_by, IsLastOf, EndBy}
 use Rattle.power_events.specs.Loads.{before, changes, load_steps, with_change, IsLoad}
+use Rattle.common_lemmas.proofs.Ranges.{range_next}
 
 -- ---- the steps up to a cycle
 
@@ -18,19 +19,13 @@ use Rattle.power_events.specs.Loads.{before, changes, load_steps, with_change, I
 abbrev pub steps_to : (ℕ → ℕ) → ℕ → List (ℕ × ℕ)
 steps_to f n = map (λ c. (c, f c)) (filter (changes f) (range_with_len 0 n))
 
-range_more : (a n : ℕ) → range_with_len a (suc n) ≡ range_with_len a n ++ (a + n) ∷ []
-range_more a zero = ap (λ v. v ∷ []) (omega arith)
-range_more a (suc n) =
-    let e : a + 1 + n ≡ a + suc n = omega arith in
-    ap (λ l. a ∷ l) (range_more (a + 1) n ∙ ap (λ v. range_with_len (a + 1) n ++ v ∷ []) e)
-
 one_change : (f : ℕ → ℕ) (n : ℕ) → map (λ c. (c, f c)) (filter (changes f) (n ∷ [])) ≡ with_change (before f n) n (f n)
 one_change f n = elim (cases_Bool (nat_eq (f n) (before f n))) [ inl same ↦ rw same refl | inr other ↦ rw other refl ]
 
 step_more : (f : ℕ → ℕ) (n : ℕ) → steps_to f (suc n) ≡ steps_to f n ++ with_change (before f n) n (f n)
 step_more f n =
     let e : 0 + n ≡ n = omega arith in
-    ap (λ l. map (λ c. (c, f c)) (filter (changes f) l)) (range_more 0 n)
+    ap (λ l. map (λ c. (c, f c)) (filter (changes f) l)) (range_next 0 n)
     ∙ ap (λ v. map (λ c. (c, f c)) (filter (changes f) (range_with_len 0 n ++ v ∷ []))) e
     ∙ ap (map (λ c. (c, f c))) (filter-append (changes f) (range_with_len 0 n) (n ∷ []))
     ∙ map-append (λ c. (c, f c)) (filter (changes f) (range_with_len 0 n)) (filter (changes f) (n ∷ []))

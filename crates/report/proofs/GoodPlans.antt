@@ -14,13 +14,12 @@ use Rattle.soc_model.specs.Chips.{ModuleValue, SocValue, LiveTest, is_live, live
 use Rattle.soc_model.specs.Sizes.{all_tests, test_work, work}
 use Rattle.soc_model.specs.SoundChips.{IsSoundChip}
 use Rattle.soc_model.proofs.Limits.{powers-le, work-le}
-use Rattle.soc_model.proofs.Sums.{sum_by-map}
 use Rattle.plan_model.specs.Plans.{LimitsValue, PlanValue, PlannedTest, ProfileValue, chains_of, end_of, greatest, is_active as is_active_planned, of_first, operations_of, planned, planned_test, power_at, power_of, power_of_id, step_power, widths}
 use Rattle.plan_model.specs.Right.{IsAt}
 use Rattle.plan_model.specs.Rules.{IsGood, Cycles, Wrappers, Proper, Wires}
 use Rattle.plan_model.specs.SoundLimits.{IsSoundLimits, IsSoundProfile, Grow}
 use Rattle.plan_model.proofs.Greatest.{le-greatest_at}
-use Rattle.plan_model.proofs.Lists.{from_filter, from_map, in_flat_map}
+use Rattle.plan_model.proofs.Lists.{from_filter, in_flat_map}
 use Rattle.plan_model.proofs.PlannedTests.{Origin, origin}
 use Rattle.plan_model.proofs.PowerAndAreaBounds.{widths_fit}
 use Rattle.plan_model.proofs.ShortTests.{short_test}
@@ -33,6 +32,7 @@ use Rattle.power_events.specs.Loads.{drawn, drawn_by, is_active}
 use Rattle.report.specs.Totals.{area_of, busy_area, cycles_of, wires_over}
 use Rattle.report.specs.BusLines.{is_bus, is_over}
 use Rattle.report.specs.PlacedTests.{AreTests, StandIn, active_over}
+use Rattle.common_lemmas.proofs.Lists.{from_map, sum_map}
 
 -- ---- when they end
 
@@ -85,8 +85,8 @@ placed_cycles plan l = omega arith
 all_short : (soc : SocValue) (limits : LimitsValue) (plan : PlanValue) → IsSoundChip soc → IsGood soc limits plan → sum_by cycles_of (placed_tests soc plan) ≤ 10 ^ 18
 unfolding planned
 all_short soc limits plan sound good =
-    let of_planned : sum_by cycles_of (placed_tests soc plan) ≡ sum_by (λ t. cycles_of (placed_of t)) (planned soc plan) = sum_by-map cycles_of placed_of (planned soc plan) in
-    let of_live : sum_by (λ t. cycles_of (placed_of t)) (planned soc plan) ≡ sum_by (λ (l : LiveTest). cycles_of (placed_of (planned_test plan l.place l.core l.test))) (live_tests soc) = sum_by-map (λ t. cycles_of (placed_of t)) (λ (l : LiveTest). planned_test plan l.place l.core l.test) (live_tests soc) in
+    let of_planned : sum_by cycles_of (placed_tests soc plan) ≡ sum_by (λ t. cycles_of (placed_of t)) (planned soc plan) = sum_map cycles_of placed_of (planned soc plan) in
+    let of_live : sum_by (λ t. cycles_of (placed_of t)) (planned soc plan) ≡ sum_by (λ (l : LiveTest). cycles_of (placed_of (planned_test plan l.place l.core l.test))) (live_tests soc) = sum_map (λ t. cycles_of (placed_of t)) (λ (l : LiveTest). planned_test plan l.place l.core l.test) (live_tests soc) in
     let low : sum_by (λ (l : LiveTest). cycles_of (placed_of (planned_test plan l.place l.core l.test))) (live_tests soc) ≤ work soc =
     sum_by-le_at (λ (l : LiveTest). cycles_of (placed_of (planned_test plan l.place l.core l.test))) (λ (l : LiveTest). test_work l.core l.test) (live_tests soc)
     (λ i l at. let e = placed_cycles plan l in let s = short_test soc plan i l (good Wrappers).1 (good Proper) at in omega (arith, e, s)) in
@@ -158,7 +158,7 @@ has_steps soc limits plan sound good i t at = record {
 }
 
 drawn_at : (limits : LimitsValue) (tests : List PlannedTest) (c : ℕ) → drawn_by limits (map placed_of tests) c ≡ power_at limits tests c
-drawn_at limits tests c = sum_by-map (drawn limits c) placed_of tests ∙ sym (sum_by-filter (is_active_planned c) (λ t. power_of limits t (c - t.start)) tests)
+drawn_at limits tests c = sum_map (drawn limits c) placed_of tests ∙ sym (sum_by-filter (is_active_planned c) (λ t. power_of limits t (c - t.start)) tests)
 
 -- what the placed tests draw is what the planned ones draw
 pub drawn_is : (soc : SocValue) (limits : LimitsValue) (plan : PlanValue) → drawn_by limits (placed_tests soc plan) ≡ power_at limits (planned soc plan)

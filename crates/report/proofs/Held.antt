@@ -5,7 +5,7 @@ use Rattle.std.proofs.lemmas.Bool.{and_parts, eqb-true, leb-true}
 use Rattle.soc_model.specs.Chips.{SocValue, is_live}
 use Rattle.plan_model.specs.Plans.{LimitsValue, PlanValue, PlannedTest, end_of, planned}
 use Rattle.plan_model.proofs.GoodPlansRunRight.{planned_some}
-use Rattle.plan_model.proofs.Lists.{from_filter, from_map}
+use Rattle.plan_model.proofs.Lists.{from_filter}
 use Rattle.plan_model.proofs.PlannedTests.{Origin, origin}
 use Rattle.live_tests.specs.declared.placed.PlacedTest.{PlacedTest}
 use Rattle.live_tests.specs.Placed.{placed_of, placed_tests}
@@ -13,6 +13,7 @@ use Rattle.report.specs.declared.holders.Hold.{Hold}
 use Rattle.report.specs.Chains.{chain_lines, last_line, last_test, test_of}
 use Rattle.report.specs.Holders.{first_held, held, holder, holds, is_holder, keeps_out, or_else}
 use Rattle.report.specs.Laws.{IsHeldBy, IsWhole}
+use Rattle.common_lemmas.proofs.Lists.{found_at, from_map}
 
 -- a live test takes a cycle at least
 pub some_cycle : (soc : SocValue) (plan : PlanValue) (i : ℕ) (t : PlacedTest) → slice_get (placed_tests soc plan) i ≡ Some t → t.start < t.end
@@ -27,18 +28,10 @@ some_cycle soc plan i t at =
 
 -- ---- who held a test
 
--- one of the tests that passes
-found : {X : Type 0} (p : X → Bool) (xs : List X) (x : X) → find p xs ≡ Some x → (i : ℕ) × (slice_get xs i ≡ Some x) × (p x ≡ true)
-found p [] x e = absurd cc
-found p (y ∷ xs) x e = go (p y) refl e (λ e'. found p xs x e') where
-  go : (b : Bool) → p y ≡ b → find p (y ∷ xs) ≡ Some x → (find p xs ≡ Some x → (i : ℕ) × (slice_get xs i ≡ Some x) × (p x ≡ true)) → (i : ℕ) × (slice_get (y ∷ xs) i ≡ Some x) × (p x ≡ true)
-  go true yes' e later = let e' = rw yes' at e in let same : y ≡ x = cc in (0, ap Some same, ap p (sym same) ∙ yes')
-  go false no' e later = let e' = rw no' at e in let r = later e' in (suc r.0, r.1, r.2)
-
 by_holder : (soc : SocValue) (limits : LimitsValue) (load : ℕ → ℕ) (tests : List PlacedTest) (kind : Hold) (t u : PlacedTest) → ((i : ℕ) (t : PlacedTest) → slice_get tests i ≡ Some t → t.start < t.end) → holder soc limits load tests kind t ≡ Some u → IsHeldBy soc limits load tests t u kind
 unfolding holder
 by_holder soc limits load tests kind t u some e =
-    let r = found (is_holder soc limits load kind t) tests u e in
+    let r = found_at (is_holder soc limits load kind t) tests u e in
     let parts = and_parts (nat_eq u.end t.start) (keeps_out soc limits load kind t u) r.2 in
     let ended : u.end ≡ t.start = eqb-true u.end t.start parts.0 in
     record { place = r.0; there = r.1; ended = ended; earlier = omega (arith, ended, some r.0 u r.1); kept_out = parts.1 }
@@ -94,7 +87,7 @@ enough soc limits load tests some (suc n) (suc m) (Some t) less low =
 last_starts : (soc : SocValue) (plan : PlanValue) (o : Option PlacedTest) → last_test (placed_tests soc plan) plan.cycles ≡ o → IfSome o (λ t. t.start < plan.cycles)
 last_starts soc plan None e = tt
 last_starts soc plan (Some t) e =
-    let r = found (λ (t : PlacedTest). nat_eq t.end plan.cycles) (placed_tests soc plan) t e in
+    let r = found_at (λ (t : PlacedTest). nat_eq t.end plan.cycles) (placed_tests soc plan) t e in
     omega (arith, some_cycle soc plan r.0 t r.1, eqb-true t.end plan.cycles r.2)
 
 pub lines_whole : (soc : SocValue) (limits : LimitsValue) (plan : PlanValue) (load : ℕ → ℕ) → IsWhole soc limits load (placed_tests soc plan) plan.cycles

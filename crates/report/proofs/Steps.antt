@@ -10,14 +10,9 @@ use Rattle.power_events.specs.Loads.{before, changes, load_steps, with_change}
 use Rattle.power_events.proofs.Sweeping.{steps_to}
 use Rattle.report.specs.declared.peak.Peak.{Peak}
 use Rattle.report.specs.Peaks.{higher, no_power, peak, peak_after}
+use Rattle.common_lemmas.proofs.Ranges.{range_next}
 
 -- ---- one cycle more
-
-range_more : (a n : ℕ) → range_with_len a (suc n) ≡ range_with_len a n ++ (a + n) ∷ []
-range_more a zero = ap (λ v. v ∷ []) (omega arith)
-range_more a (suc n) =
-    let e : a + 1 + n ≡ a + suc n = omega arith in
-    ap (λ l. a ∷ l) (range_more (a + 1) n ∙ ap (λ v. range_with_len (a + 1) n ++ v ∷ []) e)
 
 one_change : (f : ℕ → ℕ) (n : ℕ) → map (λ c. (c, f c)) (filter (changes f) (n ∷ [])) ≡ with_change (before f n) n (f n)
 one_change f n = elim (cases_Bool (nat_eq (f n) (before f n))) [ inl same ↦ rw same refl | inr other ↦ rw other refl ]
@@ -25,7 +20,7 @@ one_change f n = elim (cases_Bool (nat_eq (f n) (before f n))) [ inl same ↦ rw
 step_more : (f : ℕ → ℕ) (n : ℕ) → steps_to f (suc n) ≡ steps_to f n ++ with_change (before f n) n (f n)
 step_more f n =
     let e : 0 + n ≡ n = omega arith in
-    ap (λ l. map (λ c. (c, f c)) (filter (changes f) l)) (range_more 0 n)
+    ap (λ l. map (λ c. (c, f c)) (filter (changes f) l)) (range_next 0 n)
     ∙ ap (λ v. map (λ c. (c, f c)) (filter (changes f) (range_with_len 0 n ++ v ∷ []))) e
     ∙ ap (map (λ c. (c, f c))) (filter-append (changes f) (range_with_len 0 n) (n ∷ []))
     ∙ map-append (λ c. (c, f c)) (filter (changes f) (range_with_len 0 n)) (filter (changes f) (n ∷ []))

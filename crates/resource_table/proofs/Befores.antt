@@ -6,12 +6,13 @@ use Rattle.std.proofs.lemmas.Grind.{common_steps}
 use Rattle.std.proofs.lemmas.Bool.{cases_eq, eqb-true, eq-eqb, ne_eqb}
 use Rattle.std.proofs.lemmas.List.{length-map}
 use Rattle.std.proofs.lemmas.Option.{slice_get-map}
-use Rattle.plan_model.proofs.Lists.{from_map, from_filter, contains_at, at_contains}
+use Rattle.plan_model.proofs.Lists.{from_filter, at_contains}
 use Rattle.live_tests.specs.declared.neighbours.Neighbours.{Neighbours}
 use Rattle.live_tests.specs.Neighbours.{before}
 use Rattle.resource_table.specs.Befores.{listed, tests_before, AreListed}
 use Rattle.resource_table.specs.Jobs.{JobValue}
-use Rattle.resource_table.proofs.Places.{in_filter}
+use Rattle.common_lemmas.proofs.Tests.{eq_turned}
+use Rattle.common_lemmas.proofs.Lists.{in_filter, from_map, contains_at}
 
 pub set_at : {X : Type 0} (xs : List X) (i j : ℕ) (v d : X) → i < length xs → j ≡ i → get_or (slice_set xs i v) j d ≡ v
 set_at xs i j v d within same = grind (arith, common_steps)
@@ -19,19 +20,10 @@ set_at xs i j v d within same = grind (arith, common_steps)
 pub set_other : {X : Type 0} (xs : List X) (i j : ℕ) (v d : X) → (j ≡ i → ⊥) → get_or (slice_set xs i v) j d ≡ get_or xs j d
 set_other xs i j v d apart = grind (arith, common_steps)
 
-pub set_length : {X : Type 0} (xs : List X) (i : ℕ) (v : X) → length (slice_set xs i v) ≡ length xs
-set_length xs i v = grind (arith, common_steps)
-
-pub eqb_sym : (i j : ℕ) → nat_eq i j ≡ nat_eq j i
-eqb_sym i j = elim (cases_eq i j) [
-  | inl same ↦ eq-eqb i j same ∙ sym (eq-eqb j i (sym same))
-  | inr apart ↦ ne_eqb i j apart ∙ sym (ne_eqb j i (λ e. apart (sym e)))
-]
-
 -- what is listed beside the live tests are the tests that precede one
 pub before_is : (i : ℕ) (pairs : List (ℕ × ℕ)) → before i pairs ≡ tests_before i pairs
 before_is i [] = refl
-before_is i (p ∷ pairs) = by (nat_eq i p.1) (nat_eq p.1 i) (eqb_sym i p.1) (before_is i pairs)
+before_is i (p ∷ pairs) = by (nat_eq i p.1) (nat_eq p.1 i) (eq_turned i p.1) (before_is i pairs)
   where
     by : (b c : Bool) → b ≡ c → before i pairs ≡ tests_before i pairs → cond b (p.0 ∷ before i pairs) (before i pairs) ≡ map (λ (q : ℕ × ℕ). q.0) (cond c (p ∷ filter (λ (q : ℕ × ℕ). nat_eq q.1 i) pairs) (filter (λ (q : ℕ × ℕ). nat_eq q.1 i) pairs))
     by true true e rest = ap (λ (l : List ℕ). p.0 ∷ l) rest

@@ -12,8 +12,8 @@ use Rattle.resource_table.specs.Histories.{no_note, at_change, past_of, IsHistor
 use Rattle.resource_table.specs.Jobs.{JobValue}
 use Rattle.resource_table.specs.Schedules.{Fits, IsEarliest}
 use Rattle.resource_table.specs.Kept.{AreNotes, IsBounded}
-use Rattle.resource_table.proofs.Places.{same_item}
 use Rattle.resource_table.proofs.Schedules.{fits_fewer}
+use Rattle.common_lemmas.proofs.Lists.{any_default}
 
 empty_note : (n i : ℕ) → get_or (replicate n no_note) i no_note ≡ no_note
 empty_note zero i = refl
@@ -121,7 +121,7 @@ bounded_note job placed old new test note is history inside earliest depth value
 
 -- a note that was read
 read_note : (job : JobValue) (placed : List Placement) (bounds : History) → IsBounded job placed bounds → (test : ℕ) (read : Note) → test < length job.tests → read ≡ get_or bounds.values.items test read → read ≡ get_or bounds.values.items test no_note
-read_note job placed bounds is test read inside at = at ∙ same_item bounds.values.items test read no_note (let long = is.long in omega arith)
+read_note job placed bounds is test read inside at = at ∙ any_default bounds.values.items test read no_note (let long = is.long in omega arith)
 
 pub noted : (job : JobValue) (placed : List Placement) (bounds : History) → IsBounded job placed bounds → (test start : ℕ) (read : Note) → test < length job.tests → Fits job placed test start → read ≡ get_or bounds.values.items test read → read.start ≤ start
 noted job placed bounds is test start read inside fits at =

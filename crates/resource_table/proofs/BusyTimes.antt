@@ -4,14 +4,13 @@ use Rattle.std.specs.Prelude.{slice_get, nat_eq, nat_lt, nat_le, ◌&&◌, ◌||
 use Rattle.std.specs.List.{All, sum_by, remove}
 use Rattle.std.specs.List.Sorted.{IsNonDecreasingBy}
 use Rattle.std.specs.Global.{Vec}
-use Rattle.std.proofs.lemmas.Bool.{cases_Bool, cases_lt, lt-ltb, le-ltb, ltb-false, lt-leb, le-leb, leb-false, eqb-true, eq-eqb, and_right, or_cases}
+use Rattle.std.proofs.lemmas.Bool.{cases_Bool, cases_lt, lt-ltb, le-ltb, ltb-false, lt-leb, le-leb, leb-false, eqb-true, eq-eqb, and_right, or_cases, or_left, or_right}
 use Rattle.std.proofs.lemmas.List.Sums.{sum_by-cons, sum_by_push, sum_by-insert, sum_by-remove, sum_by-le}
 use Rattle.std.proofs.lemmas.List.{length-take, length-map, length-replicate, get_or-replicate}
 use Rattle.std.proofs.lemmas.List.Sorted.{IsNonDecreasingBy-insert, IsNonDecreasingBy-short}
 use Rattle.std.proofs.lemmas.Option.{slice_get_within, slice_get-get_or, get_or_from_slice_get}
 use Rattle.outside.specs.declared.NoMemory.{NoMemory}
 use Rattle.plan_model.specs.declared.TheConstants.{WIRES_MOST}
-use Rattle.plan_model.proofs.Lists.{from_map}
 use Rattle.plan_model.proofs.Sums.{sum_by-le_at}
 use Rattle.plan_model.proofs.Greatest.{le-greatest_at}
 use Rattle.resource_table.specs.declared.JobTest.{JobTest}
@@ -26,12 +25,13 @@ use Rattle.resource_table.specs.Jobs.{TestValue, JobValue, test_value, test_at, 
 use Rattle.resource_table.specs.Schedules.{at_start, is_at, same_bus, exclude, end_of, last_end, MeetsNone, MayPlace, IsSoundTable}
 use Rattle.resource_table.specs.LatestEnds.{AreLatestEnds}
 use Rattle.resource_table.specs.BusyTimes.{IsClear, AreFree, IsPut, IsTaken, MayFill, ArePut, MayClear, AreTaken, timeline_of, is_alone, takes, room_of, least_of, span_of, part_in, IsTimeline, AreTimelines, AreTimes, IsFree, AreOrdered, MayAdd, IsAdded, MayRemove, IsRemoved, AreEmpty, AreEmptyTimes}
-use Rattle.resource_table.proofs.Places.{all_at, all_from}
-use Rattle.resource_table.proofs.Placed.{sum_of_placed, sound_tests, at_last}
-use Rattle.resource_table.proofs.Spans.{there_is, ordered_remove}
+use Rattle.resource_table.proofs.Placed.{sum_of_placed, sound_tests}
+use Rattle.resource_table.proofs.Spans.{ordered_remove}
 use Rattle.resource_table.proofs.Fitting.{lasts_at}
 use Rattle.resource_table.proofs.KeptTables.{sound_push, trail_has_room}
 use Rattle.resource_table.proofs.Latest.{latest_new, latest_more, latest_less}
+use Rattle.common_lemmas.proofs.Tests.{both_true}
+use Rattle.common_lemmas.proofs.Lists.{sum_map, some_item, at_last, all_at, all_from, from_map}
 
 -- ---- sums that are nothing
 
@@ -49,10 +49,6 @@ none_of_sum f (y ∷ xs) none (suc i) x at = none_of_sum f xs (omega (arith, sum
 sum_of_none : {X : Type 0} (f : X → ℕ) (xs : List X) → ((i : ℕ) (x : X) → slice_get xs i ≡ Some x → f x ≡ 0) → sum_by f xs ≡ 0
 sum_of_none f [] all = refl
 sum_of_none f (y ∷ xs) all = omega (arith, sum_by-cons f y xs, all 0 y refl, sum_of_none f xs (λ i x at. all (suc i) x at))
-
-sum_map : {X Y : Type 0} (g : Y → ℕ) (h : X → Y) (xs : List X) → sum_by g (map h xs) ≡ sum_by (λ x. g (h x)) xs
-sum_map g h [] = refl
-sum_map {X} g h (x ∷ xs) = omega (arith, sum_by-cons g (h x) (map h xs), sum_by-cons (λ (y : X). g (h y)) x xs, sum_map g h xs)
 
 none_one : (b : Bool) → (let n : ℕ = (if b then 1 else 0) in n) ≡ 0 → b ≡ false
 none_one true h = absurd (omega (arith, h))
@@ -114,13 +110,9 @@ same_span-self a =
     let f : nat_eq a.from a.from ≡ true = eq-eqb a.from a.from refl in
     let t : nat_eq a.to a.to ≡ true = eq-eqb a.to a.to refl in rw (f, t) refl
 
-and_both : (x y : Bool) → (x && y) ≡ true → (x ≡ true) × (y ≡ true)
-and_both true y h = (refl, h)
-and_both false y h = absurd cc
-
 same_span-is : (a b : Span) → same_span a b ≡ true → a ≡ b
 same_span-is a b h =
-    let parts = and_both (nat_eq a.from b.from) (nat_eq a.to b.to) h in
+    let parts = both_true (nat_eq a.from b.from) (nat_eq a.to b.to) h in
     ap (λ (v : ℕ). make v a.to) (eqb-true a.from b.from parts.0) ∙ ap (make b.from) (eqb-true a.to b.to parts.1)
   where
     make : ℕ → ℕ → Span
@@ -254,30 +246,22 @@ times_new job times are = record {
 
 -- ---- tests that exclude each other
 
-or_second : (x y : Bool) → y ≡ true → (x || y) ≡ true
-or_second true y h = refl
-or_second false y h = h
-
-or_first : (x y : Bool) → x ≡ true → (x || y) ≡ true
-or_first true y h = refl
-or_first false y h = absurd cc
-
 over_one_bus : (t u : TestValue) (k : ℕ) → t.bus ≡ Some k → u.bus ≡ Some k → exclude t u ≡ true
 over_one_bus t u k a b =
     let same : same_bus t.bus u.bus ≡ true = rw (a, b) (eq-eqb k k refl) in
-    or_first (same_bus t.bus u.bus || nat_eq t.place u.place) (is_at t.parent u.place || is_at u.parent t.place) (or_first (same_bus t.bus u.bus) (nat_eq t.place u.place) same)
+    or_left (same_bus t.bus u.bus || nat_eq t.place u.place) (is_at t.parent u.place || is_at u.parent t.place) (or_left (same_bus t.bus u.bus) (nat_eq t.place u.place) same)
 
 of_one_module : (t u : TestValue) → t.place ≡ u.place → exclude t u ≡ true
 of_one_module t u same =
-    or_first (same_bus t.bus u.bus || nat_eq t.place u.place) (is_at t.parent u.place || is_at u.parent t.place) (or_second (same_bus t.bus u.bus) (nat_eq t.place u.place) (eq-eqb t.place u.place same))
+    or_left (same_bus t.bus u.bus || nat_eq t.place u.place) (is_at t.parent u.place || is_at u.parent t.place) (or_right (same_bus t.bus u.bus) (nat_eq t.place u.place) (eq-eqb t.place u.place same))
 
 of_a_child : (t u : TestValue) → t.parent ≡ Some u.place → exclude t u ≡ true
 of_a_child t u is =
-    or_second (same_bus t.bus u.bus || nat_eq t.place u.place) (is_at t.parent u.place || is_at u.parent t.place) (or_first (is_at t.parent u.place) (is_at u.parent t.place) (takes_from t.parent u.place is))
+    or_right (same_bus t.bus u.bus || nat_eq t.place u.place) (is_at t.parent u.place || is_at u.parent t.place) (or_left (is_at t.parent u.place) (is_at u.parent t.place) (takes_from t.parent u.place is))
 
 of_the_parent : (t u : TestValue) → u.parent ≡ Some t.place → exclude t u ≡ true
 of_the_parent t u is =
-    or_second (same_bus t.bus u.bus || nat_eq t.place u.place) (is_at t.parent u.place || is_at u.parent t.place) (or_second (is_at t.parent u.place) (is_at u.parent t.place) (takes_from u.parent t.place is))
+    or_right (same_bus t.bus u.bus || nat_eq t.place u.place) (is_at t.parent u.place || is_at u.parent t.place) (or_right (is_at t.parent u.place) (is_at u.parent t.place) (takes_from u.parent t.place is))
 
 same_bus-is : (a b : Option ℕ) → same_bus a b ≡ true → (k : ℕ) × (a ≡ Some k) × (b ≡ Some k)
 same_bus-is None b h = absurd cc
@@ -340,7 +324,7 @@ module _ (job : JobValue) (placed : List Placement) (sound : IsSoundTable (recor
       (n : ℕ) (p : Placement) → slice_get placed n ≡ Some p → timeline_of kind (test_at job p.test) ≡ Some k → IsClear (cycles_of job test) start (span_of job p)
   apart_line kind lines are place k test start is free n p at takes' =
       let lt = are.reach p.test k (sound.placed n p at).in_job takes' in
-      let r = there_is lines k lt in
+      let r = some_item lines k lt in
       let line = are.each k r.0 r.1 in
       meets_clear (cycles_of job test) start (span_of job p) (placed_none job placed kind k r.0.spans.items line.sums (λ (s : Span). nat_lt start s.to && nat_lt s.from (start + cycles_of job test))
       (λ i s at'. clear_meets (cycles_of job test) start s (all_at (IsClear (cycles_of job test) start) r.0.spans.items i s (free k r.0 is r.1) at')) n p at (takes_from (timeline_of kind (test_at job p.test)) k takes'))

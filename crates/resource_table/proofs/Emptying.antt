@@ -11,8 +11,8 @@ use Rattle.resource_table.specs.declared.timelines.Timeline.{Timeline}
 use Rattle.resource_table.specs.declared.timelines.Timelines.{Timelines}
 use Rattle.resource_table.specs.Jobs.{TestValue, JobValue, no_test}
 use Rattle.resource_table.specs.BusyTimes.{timeline_of, AreTimelines, AreTimes, AreCleared, AreEmpty, AreEmptyTimes}
-use Rattle.resource_table.proofs.Places.{all_from}
-use Rattle.resource_table.proofs.Spans.{read_at, set_here, set_there}
+use Rattle.resource_table.proofs.Spans.{set_there}
+use Rattle.common_lemmas.proofs.Lists.{slice_at, set_here, all_from}
 
 -- the first `count` timelines have no times; all have the room that they had
 pub record AreClearedTo (count : ℕ) (old now : List Timeline) : Type 0 where
@@ -61,7 +61,7 @@ clear_more old now at read line lt is empty room are = record {
   where
     this_room : (k : ℕ) (l : Timeline) → at ≡ k → l ≡ line → (was : Timeline) × (slice_get old k ≡ Some was) × (vec_capacity l.spans ≡ vec_capacity was.spans)
     this_room k l same one =
-        let w = are.room at read (read_at now at read lt is) in
+        let w = are.room at read (slice_at now at read lt is) in
         (w.0, subst (λ (v : ℕ). slice_get old v ≡ Some w.0) same w.1, ap (λ (v : Timeline). vec_capacity v.spans) one ∙ room ∙ w.2)
 
 pub clear_all : (old now : List Timeline) (count : ℕ) → length now ≤ count → AreClearedTo count old now → AreCleared old now

@@ -13,17 +13,12 @@ use Rattle.resource_table.specs.declared.power.Draw.{Draw}
 use Rattle.resource_table.specs.Jobs.{TestValue, JobValue, test_at, no_test, cycles_of, IsSoundJob}
 use Rattle.resource_table.specs.Schedules.{TableValue, end_of, last_end, drawn, power_of, power_at, StaysWithin, IsSoundTable}
 use Rattle.resource_table.specs.Resources.{step_end, draws_from, draws_of, load_of, StepsFit}
-use Rattle.resource_table.proofs.Places.{all_from}
 use Rattle.resource_table.proofs.Steps.{cycles_from_steps, steps_from_cycles, draws_before, draws_after, draws_at, step_end-le}
+use Rattle.common_lemmas.proofs.Lists.{all_from}
 
 -- every placed test lasts a cycle
 pub lasts_at : (t : TableValue) → IsSoundTable t → (i : ℕ) (p : Placement) → slice_get t.placed i ≡ Some p → 1 ≤ cycles_of t.job p.test
 lasts_at t sound i p at = (sound.job.tests p.test no_test (sound.placed i p at).in_job).lasts
-
-pub in_map : {X Y : Type 0} (f : X → Y) (xs : List X) (i : ℕ) (x : X) → slice_get xs i ≡ Some x → slice_get (map f xs) i ≡ Some (f x)
-in_map f [] i x at = absurd cc
-in_map f (y ∷ xs) zero x at = let same : y ≡ x = cc in ap (λ v. Some (f v)) same
-in_map f (y ∷ xs) (suc i) x at = in_map f xs i x at
 
 -- ---- numbers
 

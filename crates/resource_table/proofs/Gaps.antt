@@ -12,10 +12,10 @@ use Rattle.resource_table.specs.declared.power.Draw.{Draw}
 use Rattle.resource_table.specs.declared.points.Point.{Point}
 use Rattle.resource_table.specs.Resources.{load_of}
 use Rattle.resource_table.specs.Profiles.{no_point, load_before, uses_at, ArePoints, AreMarked}
-use Rattle.resource_table.proofs.Places.{same_item}
 use Rattle.resource_table.proofs.Profiles.{point_added}
 use Rattle.resource_table.proofs.Spans.{ordered_remove}
 use Rattle.resource_table.proofs.Marked.{load_between}
+use Rattle.common_lemmas.proofs.Lists.{any_default}
 
 -- ---- a point without a mark
 
@@ -32,10 +32,10 @@ spare_added : (draws : List Draw) (cycles : List ℕ) (points : List Point) (pla
 spare_added draws cycles points place are lt = record {
   ordered = IsNonDecreasingBy-insert (λ (p : Point). p.cycle) points (place + 1) new are.ordered (omega (arith, lt))
       (λ k d low. elim (cases_eq k place) [
-        | inl same ↦ subst (λ (n : ℕ). (get_or points n d).cycle ≤ new.cycle) (sym same) (let here = ap (λ (p : Point). p.cycle) (same_item points place d no_point lt) in omega (arith, here))
-        | inr apart ↦ (let order = are.ordered k place d (omega (arith, low, apart)) lt in let here = ap (λ (p : Point). p.cycle) (same_item points place d no_point lt) in omega (arith, order, here))
+        | inl same ↦ subst (λ (n : ℕ). (get_or points n d).cycle ≤ new.cycle) (sym same) (let here = ap (λ (p : Point). p.cycle) (any_default points place d no_point lt) in omega (arith, here))
+        | inr apart ↦ (let order = are.ordered k place d (omega (arith, low, apart)) lt in let here = ap (λ (p : Point). p.cycle) (any_default points place d no_point lt) in omega (arith, order, here))
       ])
-      (λ k d low high. (let order = are.ordered place k d (omega (arith, low)) high in let here = ap (λ (p : Point). p.cycle) (same_item points place d no_point lt) in omega (arith, order, here)));
+      (λ k d low high. (let order = are.ordered place k d (omega (arith, low)) high in let here = ap (λ (p : Point). p.cycle) (any_default points place d no_point lt) in omega (arith, order, here)));
   loads = All-append P (take (place + 1) points) (new ∷ drop (place + 1) points) (All-take P (place + 1) points are.loads) (All-cons P new (drop (place + 1) points) (are.loads place no_point lt) (All-drop P (place + 1) points are.loads));
   marks = (λ x. let old = are.marks x in omega (arith, old, none_at x new refl, sum_by-insert (uses_at x) points (place + 1) new));
   count = (let old = are.count in omega (arith, old, sum_by-insert (λ (p : Point). p.uses) points (place + 1) new));

@@ -21,7 +21,8 @@ use Rattle.resource_table.proofs.Steps.{step_end-le}
 use Rattle.resource_table.proofs.Fitting.{load_is_power}
 use Rattle.resource_table.proofs.Profiles.{self_counts, last_dropped}
 use Rattle.resource_table.proofs.Schedules.{sound_power}
-use Rattle.resource_table.proofs.KeptTables.{sound_push, trail_has_room, draws_have_room, flat_map_push}
+use Rattle.resource_table.proofs.KeptTables.{sound_push, trail_has_room, draws_have_room}
+use Rattle.common_lemmas.proofs.Lists.{flat_map_push}
 
 -- ---- a limit that may be there
 

@@ -18,18 +18,18 @@ use Rattle.resource_table.specs.Resources.{load_of, marks_of, StepsFit}
 use Rattle.resource_table.specs.Kept.{IsKept}
 use Rattle.resource_table.specs.declared.points.Point.{Point}
 use Rattle.resource_table.specs.Profiles.{ArePoints, AreMarked, IsEndedProfile}
-use Rattle.resource_table.proofs.Places.{all_at, same_item}
 use Rattle.resource_table.proofs.Loads.{load_over}
 use Rattle.resource_table.proofs.Profiles.{drawn_profile}
 use Rattle.resource_table.proofs.KeptMarks.{all_marked}
-use Rattle.resource_table.proofs.Fitting.{in_map, draws_ended, last_small, cycles_small, load_is_power, steps_from_within, within_from_steps, within_without_limit}
+use Rattle.resource_table.proofs.Fitting.{draws_ended, last_small, cycles_small, load_is_power, steps_from_within, within_from_steps, within_without_limit}
+use Rattle.common_lemmas.proofs.Lists.{map_at, all_at, any_default}
 
 -- a test that was read is the one of the job
 pub wanted_is : (tests : List JobTest) (test : ℕ) (r : JobTest) → test < length (map test_value tests) → r ≡ get_or tests test r → test_value r ≡ get_or (map test_value tests) test no_test
 wanted_is tests test r inside is =
     let lt : test < length tests = omega (arith, length-map tests test_value) in
     let there : slice_get tests test ≡ Some r = slice_get-get_or tests test r lt ∙ ap Some (sym is) in
-    sym (get_or_from_slice_get (map test_value tests) test (test_value r) no_test (in_map test_value tests test r there))
+    sym (get_or_from_slice_get (map test_value tests) test (test_value r) no_test (map_at test_value tests test r there))
 
 module _ (job : JobValue) (trail : SmallVec Placement) (ends : Vec (Option ℕ)) (lasts : Vec ℕ) (draws : Vec Draw) (kept : IsKept job trail ends lasts draws) (test : ℕ) (inside : test < length job.tests) (wanted : TestValue) (wanted_at : wanted ≡ test_at job test) where
   -- ---- numbers
@@ -97,7 +97,7 @@ steps_calm load limit most start length' (s ∷ next) calm low within =
 
 -- each step draws no more than `most`
 pub steps_low : (steps : List (ℕ × ℕ)) (most : ℕ) → ((k : ℕ) → k < length steps → (get_or steps k (0, 0)).1 ≤ most) → All (λ (s : ℕ × ℕ). s.1 ≤ most) steps
-steps_low steps most low k d lt = subst (λ (s : ℕ × ℕ). s.1 ≤ most) (sym (same_item steps k d (0, 0) lt)) (low k lt)
+steps_low steps most low k d lt = subst (λ (s : ℕ × ℕ). s.1 ≤ most) (sym (any_default steps k d (0, 0) lt)) (low k lt)
 
 -- what the draws take is what the placed tests draw
 pub power_is_load : (job : JobValue) (trail : SmallVec Placement) (ends : Vec (Option ℕ)) (lasts : Vec ℕ) (draws : Vec Draw) → IsKept job trail ends lasts draws → (c : ℕ) → load_of draws.items c ≡ power_at job trail.items c

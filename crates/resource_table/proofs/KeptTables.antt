@@ -22,8 +22,8 @@ use Rattle.resource_table.specs.declared.points.Point.{Point}
 use Rattle.resource_table.specs.Profiles.{ArePoints}
 use Rattle.resource_table.specs.Kept.{IsKept, IsProfiled}
 use Rattle.std.proofs.lemmas.List.Elements.{All-nil}
-use Rattle.resource_table.proofs.Places.{same_item}
 use Rattle.resource_table.proofs.Placed.{each_push, each_front, each_last, sound_tests, sum_of_placed, few_placed, end_is_some, end_none, end_new, end_other}
+use Rattle.common_lemmas.proofs.Lists.{flat_map_push, any_default}
 
 -- ---- what a table answers
 
@@ -31,7 +31,7 @@ pub kept_is_placed : (job : JobValue) (trail : SmallVec Placement) (ends : Vec (
     (test : ℕ) (r : Option ℕ) → test < length job.tests → r ≡ get_or ends.items test r → is_some r ≡ is_placed trail.items test
 kept_is_placed job trail ends lasts draws kept test r lt is =
     let long = kept.ends_long in
-    let same : get_or ends.items test r ≡ get_or ends.items test None = same_item ends.items test r None (omega arith) in
+    let same : get_or ends.items test r ≡ get_or ends.items test None = any_default ends.items test r None (omega arith) in
     ap is_some (is ∙ same ∙ kept.ends_are test lt) ∙ end_is_some job trail.items test
 
 -- ---- room
@@ -142,10 +142,6 @@ last_kept job trail ends lasts draws kept = go trail.items lasts.items kept.last
     go [] (l ∷ ls) long are = absurd (omega (arith, long))
     go (p ∷ placed) ls long are =
         are (length ls - 1) (omega (arith, long)) ∙ ap (last_end job) (take_all (length ls - 1 + 1) (p ∷ placed) (omega (arith, long)))
-
-pub flat_map_push : {X Y : Type 0} (f : X → List Y) (xs : List X) (x : X) → flat_map f (xs ++ x ∷ []) ≡ flat_map f xs ++ f x
-flat_map_push f [] x = append-nil (f x)
-flat_map_push f (y ∷ xs) x = ap (λ v. f y ++ v) (flat_map_push f xs x) ∙ sym (append_assoc (f y) (flat_map f xs) (f x))
 
 pub kept_push : (job : JobValue) (trail new_trail : SmallVec Placement) (ends new_ends : Vec (Option ℕ)) (lasts new_lasts : Vec ℕ) (draws new_draws : Vec Draw) (test start : ℕ) →
     IsKept job trail ends lasts draws → MayPlace job trail.items test start →

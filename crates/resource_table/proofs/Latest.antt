@@ -7,13 +7,13 @@ use Rattle.std.proofs.lemmas.Bool.{cases_eq}
 use Rattle.std.proofs.lemmas.Grind.{get_or-set_at}
 use Rattle.std.proofs.lemmas.List.{length-set, get_or-set_other}
 use Rattle.std.proofs.lemmas.Option.{slice_get_within}
-use Rattle.plan_model.proofs.Lists.{from_append, in_append_left}
+use Rattle.plan_model.proofs.Lists.{from_append}
 use Rattle.resource_table.specs.declared.Placement.{Placement}
 use Rattle.resource_table.specs.declared.latest_ends.LatestEnds.{LatestEnds}
 use Rattle.resource_table.specs.Jobs.{JobValue, test_at}
 use Rattle.resource_table.specs.Schedules.{end_of}
 use Rattle.resource_table.specs.LatestEnds.{end_at, with_end, IsLater, IsBack, IsChildAt, AreLatestEnds}
-use Rattle.resource_table.proofs.Placed.{at_last}
+use Rattle.common_lemmas.proofs.Lists.{at_last, at_left}
 
 -- ---- another end at a place
 
@@ -72,7 +72,7 @@ latest_over job other modules latest same are = record {
 
 module _ (job : JobValue) (placed : List Placement) (p : Placement) where
   child_in : (k n : ℕ) (q : Placement) → IsChildAt job placed k n q → IsChildAt job (placed ++ p ∷ []) k n q
-  child_in k n q child = record { there = in_append_left placed (p ∷ []) n q child.there; parent = child.parent }
+  child_in k n q child = record { there = at_left placed (p ∷ []) n q child.there; parent = child.parent }
 
   child_of : (k n : ℕ) (q : Placement) → IsChildAt job (placed ++ p ∷ []) k n q → (IsChildAt job placed k n q × (n < length placed)) ⊎ ((n ≡ length placed) × (p ≡ q))
   child_of k n q child = elim (from_append placed (p ∷ []) n q child.there) [

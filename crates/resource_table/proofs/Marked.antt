@@ -11,8 +11,8 @@ use Rattle.resource_table.specs.declared.power.Draw.{Draw}
 use Rattle.resource_table.specs.declared.points.Point.{Point}
 use Rattle.resource_table.specs.Resources.{load_of, marks_from}
 use Rattle.resource_table.specs.Profiles.{no_point, load_before, uses_at, all_uses, counted, ArePoints, AreMarked}
-use Rattle.resource_table.proofs.Places.{same_item}
 use Rattle.resource_table.proofs.Profiles.{drawn_profile, load_there, self_counts, some_used}
+use Rattle.common_lemmas.proofs.Lists.{any_default}
 
 pub length-marks : (start from : ℕ) (draws : List Draw) → from ≤ length draws → length (marks_from start (drop from draws)) ≡ length draws - from + 1
 length-marks start from draws le = omega (arith, length-map (drop from draws) (λ (d : Draw). d.to), length-drop from draws)
@@ -52,7 +52,7 @@ load_between held cycles points place c marked are le parts none =
     later k d low high =
         let at : c < (get_or points place no_point).cycle = first (omega (arith, low, high)) in
         let order : (get_or points place no_point).cycle ≤ (get_or points k no_point).cycle = are.ordered place k no_point low high in
-        subst (λ (p : Point). c < p.cycle) (same_item points k no_point d high) (omega (arith, at, order))
+        subst (λ (p : Point). c < p.cycle) (any_default points k no_point d high) (omega (arith, at, order))
 
 -- a mark stands among those of its cycle
 pub mark_there : (held : List Draw) (marks cycles : List ℕ) (points : List Point) (n c : ℕ) → n < length marks → c ≡ get_or marks n 0 → ArePoints held (drop n marks ++ cycles) points → 1 ≤ sum_by (uses_at c) points
@@ -112,7 +112,7 @@ mark_cycle c place points ordered late there =
 
 pub mark_used : (place : ℕ) (points : List Point) (q : Point) → place < length points → q ≡ get_or points place q → (q.uses ≡ 0 → ⊥) → 1 ≤ (get_or points place no_point).uses
 mark_used place points q lt is some =
-    let uses : q.uses ≡ (get_or points place no_point).uses = ap (λ (p : Point). p.uses) (is ∙ same_item points place q no_point lt) in
+    let uses : q.uses ≡ (get_or points place no_point).uses = ap (λ (p : Point). p.uses) (is ∙ any_default points place q no_point lt) in
     elim (cases_eq q.uses 0) [
       | inl none ↦ absurd (some none)
       | inr more ↦ omega (arith, uses, more)

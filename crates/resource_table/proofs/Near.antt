@@ -4,7 +4,7 @@ use Rattle.std.specs.List.Sorted.{IsNonDecreasingBy, IsPartitionPoint}
 use Rattle.std.proofs.lemmas.Bool.{cases_eq}
 use Rattle.resource_table.specs.declared.points.Point.{Point}
 use Rattle.resource_table.specs.Profiles.{no_point}
-use Rattle.resource_table.proofs.Places.{same_item}
+use Rattle.common_lemmas.proofs.Lists.{any_default}
 
 -- the point at a place doesn't stand before a cycle, and the one before that place does
 pub parts_near : (points : List Point) (c place : ℕ) → IsNonDecreasingBy (λ (p : Point). p.cycle) points → place ≤ length points → (place < length points → c ≤ (get_or points place no_point).cycle) → (0 < place → (get_or points (place - 1) no_point).cycle < c) →
@@ -19,7 +19,7 @@ parts_near points c place ordered le late ahead = (low, high)
           | inl same ↦ subst (λ (n : ℕ). (get_or points k no_point).cycle ≤ (get_or points n no_point).cycle) same (omega arith)
           | inr apart ↦ ordered k (place - 1) no_point (omega (arith, lt, apart)) inside
         ] in
-        subst (λ (p : Point). p.cycle < c) (same_item points k no_point d (omega (arith, lt, le))) (omega (arith, last, here))
+        subst (λ (p : Point). p.cycle < c) (any_default points k no_point d (omega (arith, lt, le))) (omega (arith, last, here))
 
     high : (k : ℕ) (d : Point) → place ≤ k → k < length points → c ≤ (get_or points k d).cycle
     high k d from lt =
@@ -28,4 +28,4 @@ parts_near points c place ordered le late ahead = (low, high)
           | inl same ↦ subst (λ (n : ℕ). (get_or points place no_point).cycle ≤ (get_or points n no_point).cycle) same (omega arith)
           | inr apart ↦ ordered place k no_point (omega (arith, from, apart)) lt
         ] in
-        subst (λ (p : Point). c ≤ p.cycle) (same_item points k no_point d lt) (omega (arith, first, here))
+        subst (λ (p : Point). c ≤ p.cycle) (any_default points k no_point d lt) (omega (arith, first, here))

@@ -7,12 +7,13 @@ use Rattle.std.proofs.lemmas.List.{take-append-le, take_at, take-append-drop, le
 use Rattle.std.proofs.lemmas.List.Sums.{sum_by-cons, sum_by-set, sum_by-le}
 use Rattle.std.proofs.lemmas.Option.{slice_get_within}
 use Rattle.plan_model.specs.Rules.{Each}
-use Rattle.plan_model.proofs.Lists.{from_append, in_append_left, none_of}
+use Rattle.plan_model.proofs.Lists.{from_append, none_of}
 use Rattle.plan_model.proofs.Sums.{sum_by-le_at}
 use Rattle.resource_table.specs.declared.Placement.{Placement}
 use Rattle.resource_table.specs.Jobs.{TestValue, JobValue, no_test, IsSoundJob}
 use Rattle.resource_table.specs.Schedules.{TableValue, end_of, is_placed, IsSoundTable}
 use Rattle.resource_table.specs.Resources.{end_in}
+use Rattle.common_lemmas.proofs.Lists.{in_take, at_last, at_left}
 
 -- ---- each item, given those before it
 
@@ -36,14 +37,10 @@ pub each_front : {X : Type 0} (P : List X → X → Type 0) (xs ys : List X) →
 each_front {X} P xs ys each n y at =
     let within : n < length xs = slice_get_within xs n y at in
     let front : take n (xs ++ ys) ≡ take n xs = take-append-le n xs ys (omega arith) in
-    subst (λ (v : List X). P v y) front (each n y (in_append_left xs ys n y at))
+    subst (λ (v : List X). P v y) front (each n y (at_left xs ys n y at))
 
 pub each_take : {X : Type 0} (P : List X → X → Type 0) (n : ℕ) (xs : List X) → Each P xs → Each P (take n xs)
 each_take P n xs each = each_front P (take n xs) (drop n xs) (subst (Each P) (sym (take-append-drop n xs)) each)
-
-pub at_last : {X : Type 0} (xs : List X) (x : X) → slice_get (xs ++ x ∷ []) (length xs) ≡ Some x
-at_last [] x = refl
-at_last (y ∷ xs) x = at_last xs x
 
 pub each_last : {X : Type 0} (P : List X → X → Type 0) (xs : List X) (x : X) → Each P (xs ++ x ∷ []) → P xs x
 each_last {X} P xs x each =
@@ -59,12 +56,6 @@ pub record AreTests (tests : List TestValue) (placed : List Placement) : Type 0 
 
 pub not_placed : (placed : List Placement) (test i : ℕ) (p : Placement) → is_placed placed test ≡ false → slice_get placed i ≡ Some p → p.test ≡ test → ⊥
 not_placed placed test i p none at same = eqb-false p.test test (none_of (λ (p : Placement). nat_eq p.test test) placed none i p at) same
-
-pub in_take : {X : Type 0} (xs : List X) (n i : ℕ) (x : X) → i < n → slice_get xs i ≡ Some x → slice_get (take n xs) i ≡ Some x
-in_take [] n i x h at = absurd cc
-in_take (y ∷ xs) zero i x h at = absurd (omega arith)
-in_take (y ∷ xs) (suc n) zero x h at = at
-in_take (y ∷ xs) (suc n) (suc i) x h at = in_take xs n i x (omega arith) at
 
 pub sound_tests : (t : TableValue) → IsSoundTable t → AreTests t.job.tests t.placed
 sound_tests t sound = record {

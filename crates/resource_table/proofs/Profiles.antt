@@ -14,7 +14,7 @@ use Rattle.resource_table.specs.declared.power.Draw.{Draw}
 use Rattle.resource_table.specs.declared.points.Point.{Point}
 use Rattle.resource_table.specs.Resources.{taken_by, load_of}
 use Rattle.resource_table.specs.Profiles.{no_point, load_before, IsProfile, uses_at, all_uses, is_used, counted, ArePoints, AreMarked, raised_by}
-use Rattle.resource_table.proofs.Places.{all_at, same_item}
+use Rattle.common_lemmas.proofs.Lists.{all_at, any_default}
 
 -- ---- what a draw takes
 
@@ -105,7 +105,7 @@ load_there load points is (suc n) c le parts =
     let early : (get_or points n no_point).cycle ≤ c = parts.0 n no_point (omega arith) (omega arith) in
     let stays : load c ≡ load (get_or points n no_point).cycle = is.between (get_or points n no_point).cycle c early (λ k d inside. elim (cases_lt n k) [
       | inl late ↦ inr (parts.1 k d (omega arith) inside)
-      | inr before ↦ inl (subst (λ (v : Point). (get_or points k d).cycle ≤ v.cycle) (same_item points n d no_point lt) (is.ordered k n d before lt))
+      | inr before ↦ inl (subst (λ (v : Point). (get_or points k d).cycle ≤ v.cycle) (any_default points n d no_point lt) (is.ordered k n d before lt))
     ]) in
     stays ∙ sym here
 
@@ -156,13 +156,13 @@ module _ (draws : List Draw) (points : List Point) (place n : ℕ) (lt : place <
 
   cycle_stays : (k : ℕ) (d : Point) → (get_or changed k d).cycle ≡ (get_or points k d).cycle
   cycle_stays k d = elim (cases_eq k place) [
-    | inl same ↦ subst (λ (v : ℕ). (get_or changed v d).cycle ≡ (get_or points v d).cycle) (sym same) (ap (λ (p : Point). p.cycle) (get_or-set_same points place (with_uses here n) d lt ∙ refl) ∙ ap (λ (p : Point). p.cycle) (same_item points place no_point d lt))
+    | inl same ↦ subst (λ (v : ℕ). (get_or changed v d).cycle ≡ (get_or points v d).cycle) (sym same) (ap (λ (p : Point). p.cycle) (get_or-set_same points place (with_uses here n) d lt ∙ refl) ∙ ap (λ (p : Point). p.cycle) (any_default points place no_point d lt))
     | inr apart ↦ ap (λ (p : Point). p.cycle) (get_or-set_other points place k (with_uses here n) d apart)
   ]
 
   load_stays : (k : ℕ) (d : Point) → (get_or changed k d).load ≡ (get_or points k d).load
   load_stays k d = elim (cases_eq k place) [
-    | inl same ↦ subst (λ (v : ℕ). (get_or changed v d).load ≡ (get_or points v d).load) (sym same) (ap (λ (p : Point). p.load) (get_or-set_same points place (with_uses here n) d lt) ∙ ap (λ (p : Point). p.load) (same_item points place no_point d lt))
+    | inl same ↦ subst (λ (v : ℕ). (get_or changed v d).load ≡ (get_or points v d).load) (sym same) (ap (λ (p : Point). p.load) (get_or-set_same points place (with_uses here n) d lt) ∙ ap (λ (p : Point). p.load) (any_default points place no_point d lt))
     | inr apart ↦ ap (λ (p : Point). p.load) (get_or-set_other points place k (with_uses here n) d apart)
   ]
 
@@ -297,7 +297,7 @@ lowered_more d low high place are lt from to covers = record {
     | inl same ↦
         (let old : get_or high place no_point ≡ get_or low place no_point = are.rest place no_point (omega arith) in
         subst (λ (v : ℕ). get_or high v e ≡ raised_by d (get_or (set low place new) v e)) (sym same)
-        (same_item high place e no_point (let long = are.long in omega arith) ∙ here (get_or low place no_point) (get_or high place no_point) old from to covers ∙ ap (raised_by d) (sym (get_or-set_same low place new e lt))))
+        (any_default high place e no_point (let long = are.long in omega arith) ∙ here (get_or low place no_point) (get_or high place no_point) old from to covers ∙ ap (raised_by d) (sym (get_or-set_same low place new e lt))))
     | inr apart ↦ are.done k e (omega (arith, before, apart)) (omega (arith, inside, length-set low place new)) ∙ ap (raised_by d) (sym (get_or-set_other low place k new e apart))
   ]);
   rest = (λ k e after. are.rest k e (omega arith) ∙ sym (get_or-set_other low place k new e (λ (same : k ≡ place). omega (arith, after, same))));
@@ -317,13 +317,13 @@ pub over_from : (points : List Point) (place to : ℕ) → IsNonDecreasingBy (λ
 over_from points place to ordered over k e le lt =
     let first : to ≤ (get_or points place no_point).cycle = over (omega arith) in
     let later : (get_or points place no_point).cycle ≤ (get_or points k no_point).cycle = ordered place k no_point le lt in
-    subst (λ (v : Point). to ≤ v.cycle) (same_item points k no_point e lt) (omega arith)
+    subst (λ (v : Point). to ≤ v.cycle) (any_default points k no_point e lt) (omega arith)
 
 -- the same, where the point at the place was read
 pub over_read : (points now : List Point) (place to : ℕ) (r : Point) → IsNonDecreasingBy (λ (p : Point). p.cycle) points → ((k : ℕ) (e : Point) → place ≤ k → get_or now k e ≡ get_or points k e) → r ≡ get_or now place r → to ≤ r.cycle →
     (k : ℕ) (e : Point) → place ≤ k → k < length points → to ≤ (get_or points k e).cycle
 over_read points now place to r ordered rest is late = over_from points place to ordered (λ lt.
-    let same : r ≡ get_or points place no_point = is ∙ rest place r (omega arith) ∙ same_item points place r no_point lt in
+    let same : r ≡ get_or points place no_point = is ∙ rest place r (omega arith) ∙ any_default points place r no_point lt in
     subst (λ (v : Point). to ≤ v.cycle) same late)
 
 pub over_low : (d : Draw) (low high : List Point) (place : ℕ) → AreRaised d low high place → ((k : ℕ) (e : Point) → place ≤ k → k < length high → d.to ≤ (get_or high k e).cycle) → (k : ℕ) (e : Point) → place ≤ k → k < length low → d.to ≤ (get_or low k e).cycle

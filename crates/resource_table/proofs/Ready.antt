@@ -7,7 +7,7 @@ use Rattle.std.proofs.lemmas.Bool.{cases_Bool, eqb-true, eq-eqb, and_parts, and_
 use Rattle.std.proofs.lemmas.List.Elements.{All-contains}
 use Rattle.smallvec.specs.SmallVec.{SmallVec}
 use Rattle.plan_model.specs.Plans.{greatest}
-use Rattle.plan_model.proofs.Lists.{contains_at, at_contains, any_from, any_at, from_filter}
+use Rattle.plan_model.proofs.Lists.{at_contains, any_from, from_filter}
 use Rattle.plan_model.proofs.Greatest.{le-greatest_at, greatest-least}
 use Rattle.resource_table.specs.declared.Placement.{Placement}
 use Rattle.resource_table.specs.declared.power.Draw.{Draw}
@@ -17,9 +17,9 @@ use Rattle.resource_table.specs.Resources.{end_in}
 use Rattle.resource_table.specs.Kept.{IsKept}
 use Rattle.live_tests.specs.declared.neighbours.Neighbours.{Neighbours}
 use Rattle.resource_table.specs.Befores.{tests_before, listed, AreListed}
-use Rattle.resource_table.proofs.Places.{all_from}
 use Rattle.resource_table.proofs.Befores.{before_from, before_has}
 use Rattle.resource_table.proofs.Placed.{sound_tests, end_at, end_from}
+use Rattle.common_lemmas.proofs.Lists.{all_from, contains_at, any_at}
 
 pair_is : (p : ℕ × ℕ) (a b : ℕ) → p.0 ≡ a → p.1 ≡ b → p ≡ (a, b)
 pair_is p a b first second = ap (λ (x : ℕ). (let q : ℕ × ℕ = (x, p.1) in q)) first ∙ ap (λ (y : ℕ). (let q : ℕ × ℕ = (a, y) in q)) second

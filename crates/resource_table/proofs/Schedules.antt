@@ -8,12 +8,14 @@ use Rattle.std.proofs.lemmas.List.Elements.{All-head, All-tail}
 use Rattle.std.proofs.lemmas.List.Sums.{sum_by-cons, sum_by_push, sum_by-append}
 use Rattle.std.proofs.lemmas.Option.{slice_get_within, slice_get-get_or}
 use Rattle.plan_model.specs.Plans.{step_power}
-use Rattle.plan_model.proofs.Lists.{any_at, from_append, in_append_left}
+use Rattle.plan_model.proofs.Lists.{from_append}
 use Rattle.plan_model.proofs.Greatest.{le-greatest_at}
 use Rattle.resource_table.specs.declared.Placement.{Placement}
 use Rattle.resource_table.specs.Jobs.{TestValue, JobValue, test_at, no_test, cycles_of, Precedes, IsSoundJob}
 use Rattle.resource_table.specs.Schedules.{TableValue, at_start, exclude, end_of, last_end, IsActive, is_active, drawn, power_of, power_at, is_placed, Fits, IsEarliest, IsSoundTable, IsListSchedule}
-use Rattle.resource_table.proofs.Placed.{each_push, AreTests, sound_tests, sum_of_placed, in_take, not_placed}
+use Rattle.resource_table.proofs.Placed.{each_push, AreTests, sound_tests, sum_of_placed, not_placed}
+use Rattle.common_lemmas.proofs.Options.{if_fewer, if_some}
+use Rattle.common_lemmas.proofs.Lists.{in_take, any_at, at_left}
 
 -- ---- a sound table keeps the rules
 
@@ -30,10 +32,6 @@ with_drawn job placed p c most before now = elim (cases_Bool (is_active job c p)
       let parts = and_parts (nat_le p.start c) (nat_lt c (end_of job p)) yes' in
       rw yes' (now (leb-true p.start c parts.0, ltb-true c (end_of job p) parts.1))
 ]
-
-if_some : {X : Type 0} (o : Option X) (P : X → Type 0) → ((x : X) → o ≡ Some x → P x) → IfSome o P
-if_some None P h = tt
-if_some (Some x) P h = h x refl
 
 from_some : {X : Type 0} (o : Option X) (P : X → Type 0) (x : X) → IfSome o P → o ≡ Some x → P x
 from_some o P x h is = subst (λ v. IfSome v P) is h
@@ -104,16 +102,12 @@ power_over job (p ∷ placed) c over =
     let none : drawn job c p ≡ 0 = rw (le-ltb c (end_of job p) (over 0 p refl), and_right (nat_le p.start c) false refl) refl in
     omega (arith, sum_by-cons (drawn job c) p placed, none, power_over job placed c (λ i q at. over (suc i) q at))
 
-if_fewer : (o : Option ℕ) (a b : ℕ) → a ≤ b → IfSome o (λ most. b ≤ most) → IfSome o (λ most. a ≤ most)
-if_fewer None a b le h = tt
-if_fewer (Some most) a b le h = omega (arith, le, h)
-
 -- what fits beside more tests fits beside fewer
 pub fits_fewer : (job : JobValue) (placed more : List Placement) (test start : ℕ) → Fits job (placed ++ more) test start → Fits job placed test start
 fits_fewer job placed more test start fits = record {
-  apart = λ n p c at. fits.apart n p c (in_append_left placed more n p at);
+  apart = λ n p c at. fits.apart n p c (at_left placed more n p at);
   power = λ c active. if_fewer job.power (power_at job placed c + power_of job test (c - start)) (power_at job (placed ++ more) c + power_of job test (c - start)) (omega (arith, sum_by-append (drawn job c) placed more)) (fits.power c active);
-  after = λ n p at. fits.after n p (in_append_left placed more n p at);
+  after = λ n p at. fits.after n p (at_left placed more n p at);
 }
 
 -- a test fits after all others

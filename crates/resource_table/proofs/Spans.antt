@@ -9,22 +9,8 @@ use Rattle.std.proofs.lemmas.Option.{slice_get-get_or, slice_get_within, get_or_
 use Rattle.std.proofs.lemmas.List.Edits.{get_or-remove_below, get_or-remove_above, length-remove}
 use Rattle.resource_table.specs.declared.timelines.Span.{Span}
 use Rattle.resource_table.specs.declared.timelines.Timeline.{Timeline}
-use Rattle.resource_table.proofs.Places.{same_item}
 use Rattle.resource_table.specs.BusyTimes.{IsClear, IsPut, IsTaken, ArePut, AreTaken}
-
--- what is read at a place stands there
-pub read_at : {X : Type 0} (xs : List X) (k : ℕ) (x : X) → k < length xs → x ≡ get_or xs k x → slice_get xs k ≡ Some x
-read_at xs k x lt is = slice_get-get_or xs k x lt ∙ ap Some (sym is)
-
-pub there_is : {X : Type 0} (xs : List X) (k : ℕ) → k < length xs → (x : X) × (slice_get xs k ≡ Some x)
-there_is [] k lt = absurd (omega (arith, lt))
-there_is (y ∷ xs) zero lt = (y, refl)
-there_is (y ∷ xs) (suc k) lt = there_is xs k (omega arith)
-
-pub set_here : {X : Type 0} (xs : List X) (k : ℕ) (x : X) → k < length xs → slice_get (set xs k x) k ≡ Some x
-set_here [] k x lt = absurd (omega (arith, lt))
-set_here (y ∷ xs) zero x lt = refl
-set_here (y ∷ xs) (suc k) x lt = set_here xs k x (omega arith)
+use Rattle.common_lemmas.proofs.Lists.{set_here, slice_at, any_default}
 
 pub set_there : {X : Type 0} (xs : List X) (k j : ℕ) (x : X) → (k ≡ j → ⊥) → slice_get (set xs k x) j ≡ slice_get xs j
 set_there [] k j x apart = refl
@@ -58,7 +44,7 @@ same_line lines place at k line other is there is' there' =
 
 -- the last of an ordered list is no less than each
 pub last_most : {X : Type 0} (n : X → ℕ) (xs : List X) (k : ℕ) (d e : X) → IsNonDecreasingBy n xs → k < length xs → n (get_or xs k d) ≤ n (get_or xs (length xs - 1) e)
-last_most {X} n xs k d e up lt = subst (λ (x : X). n x ≤ n (get_or xs (length xs - 1) e)) (same_item xs k e d lt) (up k (length xs - 1) e (omega (arith, lt)) (omega (arith, lt)))
+last_most {X} n xs k d e up lt = subst (λ (x : X). n x ≤ n (get_or xs (length xs - 1) e)) (any_default xs k e d lt) (up k (length xs - 1) e (omega (arith, lt)) (omega (arith, lt)))
 
 -- ---- one timeline of a list changes
 
@@ -118,7 +104,7 @@ stands_behind spans span place at before there = elim (cases_lt at place) [
 
 -- a time that is read, and starts and ends as another one does
 pub read_time : (spans : List Span) (k : ℕ) (read span : Span) → k < length spans → read ≡ get_or spans k read → read.from ≡ span.from → read.to ≡ span.to → slice_get spans k ≡ Some span
-read_time spans k read span lt is begin end = read_at spans k read lt is ∙ ap Some (both read span begin end)
+read_time spans k read span lt is begin end = slice_at spans k read lt is ∙ ap Some (both read span begin end)
   where
     make : ℕ → ℕ → Span
     make x y = record { from = x; to = y }
@@ -143,13 +129,13 @@ pub clear_between : (spans : List Span) (length' next place : ℕ) (e : Span) �
     place < length spans → next + length' ≤ (get_or spans place e).from → All (IsClear length' next) spans
 clear_between spans length' next place e up ended within room k d lt = elim (cases_lt k place) [
   | inl before ↦ inl (ended k d (omega arith) before)
-  | inr behind ↦ inr (omega (arith, room, up place k d behind lt, ap (λ (s : Span). s.from) (same_item spans place e d within)))
+  | inr behind ↦ inr (omega (arith, room, up place k d behind lt, ap (λ (s : Span). s.from) (any_default spans place e d within)))
 ]
 
 -- of times that end in the order of their starts, only the last runs
 pub last_runs : (spans : List Span) (cycle : ℕ) (e : Span) → IsNonDecreasingBy (λ (s : Span). s.to) spans → 2 ≤ length spans → cycle < (get_or spans (length spans - 1) e).to → (get_or spans (length spans - 2) e).to ≤ cycle →
     IsPartitionPoint (λ (s : Span). s.to ≤ cycle) (λ (s : Span). cycle < s.to) spans (length spans - 1)
 last_runs spans cycle e up some last before = (
-  (λ k d low high. omega (arith, before, up k (length spans - 2) d (omega arith) (omega arith), ap (λ (s : Span). s.to) (same_item spans (length spans - 2) d e (omega arith)))),
-  (λ k d low high. omega (arith, last, up (length spans - 1) k d low high, ap (λ (s : Span). s.to) (same_item spans (length spans - 1) d e (omega arith)))),
+  (λ k d low high. omega (arith, before, up k (length spans - 2) d (omega arith) (omega arith), ap (λ (s : Span). s.to) (any_default spans (length spans - 2) d e (omega arith)))),
+  (λ k d low high. omega (arith, last, up (length spans - 1) k d low high, ap (λ (s : Span). s.to) (any_default spans (length spans - 1) d e (omega arith)))),
 )

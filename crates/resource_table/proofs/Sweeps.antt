@@ -5,19 +5,19 @@ use Rattle.std.specs.List.Sorted.{IsPartitionPoint}
 use Rattle.std.proofs.lemmas.Bool.{cases_lt, cases_Bool, lt-ltb, le-ltb}
 use Rattle.resource_table.specs.declared.points.Point.{Point}
 use Rattle.resource_table.specs.Profiles.{no_point, load_before, IsProfile, IsEndedProfile, IsFreeFor}
-use Rattle.resource_table.proofs.Places.{same_item}
 use Rattle.resource_table.proofs.Profiles.{load_there}
+use Rattle.common_lemmas.proofs.Lists.{any_default}
 
 -- the load from a point on up to the next
 pub load_from : (load : ℕ → ℕ) (points : List Point) → IsProfile load points → (k c : ℕ) → k < length points → (get_or points k no_point).cycle ≤ c → (k + 1 < length points → c < (get_or points (k + 1) no_point).cycle) → load c ≡ (get_or points k no_point).load
 load_from load points is k c lt from next =
     let here : (get_or points k no_point).load ≡ load (get_or points k no_point).cycle = is.here k no_point lt in
     let stays : load c ≡ load (get_or points k no_point).cycle = is.between (get_or points k no_point).cycle c from (λ i d inside. elim (cases_lt k i) [
-      | inr before ↦ inl (subst (λ (v : Point). (get_or points i d).cycle ≤ v.cycle) (same_item points k d no_point lt) (is.ordered i k d before lt))
+      | inr before ↦ inl (subst (λ (v : Point). (get_or points i d).cycle ≤ v.cycle) (any_default points k d no_point lt) (is.ordered i k d before lt))
       | inl after ↦
           (let first : c < (get_or points (k + 1) no_point).cycle = next (omega arith) in
           let later : (get_or points (k + 1) no_point).cycle ≤ (get_or points i no_point).cycle = is.ordered (k + 1) i no_point (omega arith) inside in
-          inr (subst (λ (v : Point). c < v.cycle) (same_item points i no_point d inside) (omega arith)))
+          inr (subst (λ (v : Point). c < v.cycle) (any_default points i no_point d inside) (omega arith)))
     ]) in
     stays ∙ sym here
 
@@ -68,7 +68,7 @@ load_up_to load points place from c is le parts low next = load_there load point
   (λ k d i j.
       let first : c < (get_or points place no_point).cycle = next (omega (arith, i, j)) in
       let order : (get_or points place no_point).cycle ≤ (get_or points k no_point).cycle = is.ordered place k no_point i j in
-      subst (λ (p : Point). c < p.cycle) (same_item points k no_point d j) (omega (arith, first, order))),
+      subst (λ (p : Point). c < p.cycle) (any_default points k no_point d j) (omega (arith, first, order))),
 )
 
 pub swept_first : (points : List Point) (free from width last place : ℕ) → 1 ≤ width → place ≤ length points → IsPartitionPoint (λ (p : Point). p.cycle ≤ from) (λ (p : Point). from < p.cycle) points place →

@@ -8,7 +8,6 @@ use Rattle.plan_model.specs.Cells.{Cell, response_cells}
 use Rattle.plan_model.specs.Plans.{LimitsValue, PlanValue}
 use Rattle.plan_model.specs.Rules.{IsGood}
 use Rattle.plan_model.specs.Runs.{Content}
-use Rattle.plan_model.proofs.Lists.{from_map}
 use Rattle.test_data.specs.declared.DataBit.TheVariants.{Any}
 use Rattle.test_data.specs.DataWords.{EntryValue, PatternValue}
 use Rattle.test_data.specs.Suiting.{name_in}
@@ -19,6 +18,7 @@ use Rattle.made_data.proofs.DataOfContents.{data_of}
 use Rattle.made_data.proofs.SuitingEntries.{IsEntryOf, entry_at}
 use Rattle.retargeter.specs.DataTexts.{retarget_text, SaysAllResponses}
 use Rattle.retargeter.proofs.RetargetTexts.{vectors_again}
+use Rattle.common_lemmas.proofs.Lists.{from_map}
 
 known : (b : Bool) → data_bit b ≡ Any → ⊥
 known true e = absurd cc

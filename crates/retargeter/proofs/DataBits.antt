@@ -14,8 +14,7 @@ use Rattle.plan_model.specs.Cells.{Cell, is_loaded, is_read, cells_of, stimulus_
 use Rattle.plan_model.specs.Plans.{PlanValue, PlannedTest, planned, planned_test}
 use Rattle.plan_model.specs.Right.{IsAt, AllStand}
 use Rattle.plan_model.specs.Runs.{Content}
-use Rattle.plan_model.proofs.Finding.{in_filter}
-use Rattle.plan_model.proofs.Lists.{from_filter, contains_at, at_contains, in_flat_map}
+use Rattle.plan_model.proofs.Lists.{from_filter, at_contains, in_flat_map}
 use Rattle.plan_model.proofs.PlannedTests.{Origin, origin}
 use Rattle.plan_model.proofs.TestsInGoodPlans.{planned_tam}
 use Rattle.test_data.specs.declared.DataBit.{DataBit}
@@ -29,6 +28,7 @@ use Rattle.bit_machine.specs.Sessions.{response_place}
 use Rattle.bit_machine.proofs.Responses.{response_number}
 use Rattle.bit_machine.proofs.Stimuli.{stimulus_number}
 use Rattle.retargeter.specs.Contents.{compared_byte, numbered, load_of, unload_of, load_bit, unload_bit, entry_place, of_test, of_module, of_places, of_named, load_at, unload_at, data_content, data_marks}
+use Rattle.common_lemmas.proofs.Lists.{contains_at, in_filter}
 
 -- ---- the test of a plan
 

@@ -14,7 +14,6 @@ use Rattle.plan_model.specs.Plans.{PlanValue, LimitsValue, PlannedTest, planned,
 use Rattle.plan_model.specs.Right.{IsAt, IsRight, IsReadAt}
 use Rattle.plan_model.specs.Rules.{IsGood}
 use Rattle.plan_model.specs.Runs.{Content, carried, operation_at}
-use Rattle.plan_model.proofs.Finding.{in_filter}
 use Rattle.plan_model.proofs.GoodPlansRunRight.{every_good_plan_is_right}
 use Rattle.plan_model.proofs.LoadsAndReads.{begun_at}
 use Rattle.plan_model.proofs.Lists.{from_filter, at_contains}
@@ -34,6 +33,7 @@ use Rattle.retargeter.specs.Contents.{compared_byte, data_content, data_marks}
 use Rattle.retargeter.specs.DataRuns.{bit_as_data, IsSaid, IsByteOf, IsComparedOnce, IsOfData, RunsWithContent}
 use Rattle.retargeter.proofs.DataBits.{planned_name, planned_patterns, planned_cells}
 use Rattle.retargeter.proofs.RightData.{data_carried, IsReadOfData, read_of_data, mark_by_number}
+use Rattle.common_lemmas.proofs.Lists.{in_filter}
 
 -- what stands in a text that shows the bits of a content, and marks where response bits are read
 pub record TextShows (soc : SocValue) (plan : PlanValue) (content : Content) (marks : Marks) (text : List ℕ) : Type 0 where

@@ -7,13 +7,7 @@ use Rattle.std.proofs.lemmas.List.FromFn.{length-range_with_len, get_or-range_wi
 use Rattle.soc_model.specs.Chips.{ModuleValue, SocValue}
 use Rattle.soc_model.specs.Lookups.{has_module_number}
 use Rattle.sample_maker.specs.Samples.{made_module, made_chip}
-
-range_more : (a n : ℕ) → range_with_len a (n + 1) ≡ range_with_len a n ++ (a + n) ∷ []
-range_more a zero = ap (λ x. x ∷ []) (omega arith)
-range_more a (suc n) =
-    let e : suc n + 1 ≡ suc (n + 1) = omega arith in
-    let last : (a + 1) + n ≡ a + suc n = omega arith in
-    ap (range_with_len a) e ∙ ap (λ xs. a ∷ xs) (range_more (a + 1) n ∙ ap (λ x. range_with_len (a + 1) n ++ x ∷ []) last)
+use Rattle.common_lemmas.proofs.Ranges.{range_more}
 
 not_it : (a b : ℕ) → b < a → nat_eq a b ≡ false
 not_it a b lt = grind (arith, nat_tests)

@@ -16,14 +16,12 @@ use Rattle.soc_model.specs.Sizes.{HasSmall, IsWithinSize, over, all_tests, test_
 use Rattle.soc_model.specs.SoundChips.{AllDiffer, IsSoundModule, IsSoundChip, IsName, is_name_byte, is_keyword, keywords}
 use Rattle.soc_model.proofs.Sums.{IsSmallTest, module_numbers-small, flat_from_all, work_in, work-modules}
 use Rattle.sample_maker.specs.Samples.{drawn, is_below, chain_length, chain_lengths, scan_test, self_test, has_self_test, made_module, top_module, made_chip}
+use Rattle.common_lemmas.proofs.Tests.{lt_false}
 
 -- ---- lists
 
 every : {X : Type 0} (P : X → Type 0) (xs : List X) → ((x : X) → P x) → All P xs
 every P xs h = λ k d lt. h (get_or xs k d)
-
-lt_false : (a b : ℕ) → b ≤ a → nat_lt a b ≡ false
-lt_false a b e = grind (arith, nat_tests)
 
 none_found : (most : ℕ) (xs : List ℕ) → All (λ n. n ≤ most) xs → find (nat_lt most) xs ≡ None
 none_found most [] small = refl

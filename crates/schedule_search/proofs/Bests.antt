@@ -6,12 +6,12 @@ use Rattle.std.proofs.lemmas.Bool.{cases_Bool, cases_lt, cases_eq, eq-eqb}
 use Rattle.std.proofs.lemmas.List.{take-append-le, take_at, take-take, take-append-drop, take-map}
 use Rattle.std.proofs.lemmas.List.Sums.{sum_by-append}
 use Rattle.plan_model.specs.Rules.{Each}
-use Rattle.plan_model.proofs.Lists.{contains_at, at_contains, from_map, in_append_left}
+use Rattle.plan_model.proofs.Lists.{at_contains}
 use Rattle.plan_model.proofs.Greatest.{le-greatest_at}
 use Rattle.resource_table.specs.declared.Placement.{Placement}
 use Rattle.resource_table.specs.Jobs.{JobValue, cycles_of, Precedes, IsSoundJob}
 use Rattle.resource_table.specs.Schedules.{TableValue, end_of, is_placed, drawn, power_at, power_of, Fits, IsEarliest, IsSoundTable}
-use Rattle.resource_table.proofs.Placed.{each_front, each_last, each_take, not_placed, in_take}
+use Rattle.resource_table.proofs.Placed.{each_front, each_last, each_take, not_placed}
 use Rattle.schedule_search.specs.Orders.{IsReady, IsTopological, GoesFirst, IsLongest, IsFirstOrder}
 use Rattle.schedule_search.specs.OrderCycles.{Takes, HasPlaced}
 use Rattle.schedule_search.specs.Walks.{goes_before, stands_before, IsShut, IsOpen, walk_from}
@@ -24,6 +24,8 @@ use Rattle.schedule_search.proofs.Following.{in_placed, in_to, in_front}
 use Rattle.schedule_search.proofs.Comparing.{stays_from, AreInOrder, in_order_at, later_stays, after_prefix, differ_here}
 use Rattle.schedule_search.proofs.Counting.{topological_long}
 use Rattle.schedule_search.proofs.Walking.{extends_in}
+use Rattle.common_lemmas.proofs.Options.{if_fewer}
+use Rattle.common_lemmas.proofs.Lists.{in_take, contains_at, from_map, at_left}
 
 -- ---- placed tests are ready ones
 
@@ -55,16 +57,12 @@ followers_unplaced t test sound free later before = elim (cases_Bool (is_placed 
 
 -- ---- below a prefix with a late test
 
-if_fewer : (o : Option ℕ) (a b : ℕ) → a ≤ b → IfSome o (λ most. b ≤ most) → IfSome o (λ most. a ≤ most)
-if_fewer None a b le h = tt
-if_fewer (Some most) a b le h = omega (arith, le, h)
-
 -- what fits beside more tests fits beside fewer
 fits_fewer : (job : JobValue) (placed more : List Placement) (test start : ℕ) → Fits job (placed ++ more) test start → Fits job placed test start
 fits_fewer job placed more test start fits = record {
-  apart = λ n p c at. fits.apart n p c (in_append_left placed more n p at);
+  apart = λ n p c at. fits.apart n p c (at_left placed more n p at);
   power = λ c active. if_fewer job.power (power_at job placed c + power_of job test (c - start)) (power_at job (placed ++ more) c + power_of job test (c - start)) (omega (arith, sum_by-append (drawn job c) placed more)) (fits.power c active);
-  after = λ n p at. fits.after n p (in_append_left placed more n p at);
+  after = λ n p at. fits.after n p (at_left placed more n p at);
 }
 
 front_of : (xs : List Placement) (k m : ℕ) → k ≤ m → take m xs ≡ take k xs ++ drop k (take m xs)

@@ -5,12 +5,12 @@ use Rattle.std.specs.List.{Contains}
 use Rattle.std.proofs.lemmas.Bool.{cases_Bool}
 use Rattle.std.proofs.lemmas.List.Elements.{Contains-append_left, Contains-append_right, Contains-append_cases}
 use Rattle.plan_model.specs.Rules.{Each}
-use Rattle.plan_model.proofs.Lists.{contains_at, at_contains, split_at}
+use Rattle.plan_model.proofs.Lists.{at_contains, split_at}
 use Rattle.resource_table.specs.Jobs.{JobValue}
-use Rattle.resource_table.proofs.Placed.{in_take}
 use Rattle.schedule_search.specs.Orders.{IsReady, IsTopological}
 use Rattle.schedule_search.specs.Walks.{is_in}
 use Rattle.schedule_search.proofs.Following.{in_from, in_to}
+use Rattle.common_lemmas.proofs.Lists.{in_take, contains_at}
 
 -- no item stands at two places
 abbrev pub NoTwice : List ℕ → Type 0

@@ -10,11 +10,12 @@ use Rattle.plan_model.proofs.Greatest.{le-greatest_at, greatest-least}
 use Rattle.resource_table.specs.declared.Placement.{Placement}
 use Rattle.resource_table.specs.Jobs.{TestValue, JobValue, IsSoundJob}
 use Rattle.resource_table.specs.Schedules.{TableValue, at_start, end_of, last_end, IsEarliest, IsListSchedule}
-use Rattle.resource_table.proofs.Placed.{AreTests, in_take, each_take}
+use Rattle.resource_table.proofs.Placed.{AreTests, each_take}
 use Rattle.resource_table.proofs.Schedules.{next_list, short_list}
 use Rattle.schedule_search.specs.Orders.{IsReady}
 use Rattle.schedule_search.specs.OrderCycles.{Takes, HasPlaced}
 use Rattle.schedule_search.proofs.LeastStarts.{some_earliest}
+use Rattle.common_lemmas.proofs.Lists.{in_take}
 
 no_placement : Placement
 no_placement = record { test = 0; start = 0 }

@@ -7,11 +7,12 @@ use Rattle.std.proofs.lemmas.List.{take-append-le, take_at}
 use Rattle.std.proofs.lemmas.List.Edits.{swap_is}
 use Rattle.std.proofs.lemmas.Option.{slice_get_within}
 use Rattle.plan_model.specs.Rules.{Each}
-use Rattle.plan_model.proofs.Lists.{from_append, in_append_left, in_append_right, contains_at, at_contains}
+use Rattle.plan_model.proofs.Lists.{from_append, in_append_right, at_contains}
 use Rattle.resource_table.specs.Jobs.{JobValue, Precedes}
 use Rattle.resource_table.proofs.Placed.{each_front}
 use Rattle.schedule_search.specs.Orders.{IsReady, IsTopological}
 use Rattle.schedule_search.specs.Exchanges.{exchanged, NoGainAt}
+use Rattle.common_lemmas.proofs.Lists.{at_left, contains_at}
 
 -- ---- an order, taken apart at two neighbours
 
@@ -86,7 +87,7 @@ in_exchanged : (front rest : List ℕ) (a b x : ℕ) → Contains (front ++ a �
 in_exchanged front rest a b x there =
     let at = contains_at (front ++ a ∷ b ∷ rest) x there in
     elim (from_append front (a ∷ b ∷ rest) at.0 x at.1) [
-      | inl old ↦ at_contains (front ++ b ∷ a ∷ rest) at.0 x (in_append_left front (b ∷ a ∷ rest) at.0 x old)
+      | inl old ↦ at_contains (front ++ b ∷ a ∷ rest) at.0 x (at_left front (b ∷ a ∷ rest) at.0 x old)
       | inr new ↦ late new.0 new.2
     ]
   where
@@ -96,7 +97,7 @@ in_exchanged front rest a b x there =
     late (suc (suc j)) at = let r = in_append_right front (b ∷ a ∷ rest) (suc (suc j)) x at in at_contains (front ++ b ∷ a ∷ rest) r.0 x r.1
 
 in_front : (front rest : List ℕ) (x : ℕ) → Contains front x → Contains (front ++ rest) x
-in_front front rest x there = let at = contains_at front x there in at_contains (front ++ rest) at.0 x (in_append_left front rest at.0 x at.1)
+in_front front rest x there = let at = contains_at front x there in at_contains (front ++ rest) at.0 x (at_left front rest at.0 x at.1)
 
 at_end : (front : List ℕ) (a : ℕ) → Contains (front ++ a ∷ []) a
 at_end front a = let r = in_append_right front (a ∷ []) 0 a refl in at_contains (front ++ a ∷ []) r.0 a r.1

@@ -5,7 +5,7 @@ use Rattle.std.specs.List.{Contains, list_all}
 use Rattle.std.proofs.lemmas.Bool.{cases_Bool, eqb-true, eq-eqb, and_parts, and_from}
 use Rattle.std.proofs.lemmas.List.Elements.{All-contains}
 use Rattle.std.proofs.lemmas.List.Sums.{AllPass-from_list_all, list_all-from_AllPass}
-use Rattle.plan_model.proofs.Lists.{contains_at, at_contains, any_from, any_at}
+use Rattle.plan_model.proofs.Lists.{at_contains, any_from}
 use Rattle.resource_table.specs.declared.Placement.{Placement}
 use Rattle.resource_table.specs.Jobs.{JobValue}
 use Rattle.resource_table.specs.Schedules.{is_placed}
@@ -14,6 +14,8 @@ use Rattle.resource_table.specs.Befores.{tests_before}
 use Rattle.schedule_search.specs.Walks.{is_in, may_follow}
 use Rattle.resource_table.proofs.Befores.{before_from, before_has}
 use Rattle.schedule_search.proofs.Predecessors.{at_place}
+use Rattle.common_lemmas.proofs.Tests.{not_true}
+use Rattle.common_lemmas.proofs.Lists.{contains_at, any_at}
 
 -- ---- which tests are placed
 
@@ -36,10 +38,6 @@ in_to tests test is =
 
 pub not_in : (tests : List ℕ) (test : ℕ) → (Contains tests test → ⊥) → is_in tests test ≡ false
 not_in tests test new = elim (cases_Bool (is_in tests test)) [ inl yes' ↦ absurd (new (in_to tests test yes')) | inr no' ↦ no' ]
-
-pub not_true : (b : Bool) → not b ≡ true → b ≡ false
-not_true true e = absurd cc
-not_true false e = refl
 
 true_not : (b : Bool) → (b ≡ true → ⊥) → not b ≡ true
 true_not true h = absurd (h refl)

@@ -7,7 +7,7 @@ use Rattle.std.proofs.lemmas.Option.{slice_get_within, slice_get-map}
 use Rattle.std.proofs.lemmas.List.{append-nil}
 use Rattle.std.proofs.lemmas.List.Elements.{filter-append}
 use Rattle.std.proofs.lemmas.List.Folds.{list_any-append}
-use Rattle.plan_model.proofs.Lists.{contains_at, at_contains}
+use Rattle.plan_model.proofs.Lists.{at_contains}
 use Rattle.resource_table.specs.declared.Placement.{Placement}
 use Rattle.resource_table.specs.Jobs.{JobValue, cycles_of, Precedes}
 use Rattle.resource_table.specs.Schedules.{TableValue, precedes, ready_at, is_placed, last_end}
@@ -18,18 +18,17 @@ use Rattle.resource_table.specs.Befores.{listed}
 use Rattle.schedule_search.specs.declared.walk.Seen.{Seen}
 use Rattle.schedule_search.specs.Late.{AreInTime, IsSeen, AreUnplaced}
 use Rattle.schedule_search.specs.Prefixes.{turned, tests_after, AreFollowers}
+use Rattle.common_lemmas.proofs.Options.{some_same}
+use Rattle.common_lemmas.proofs.Lists.{contains_at}
 
 -- the first of some tests are in time
 abbrev pub AreInTimeBelow : TableValue → List ℕ → ℕ → ℕ → Type 0
 AreInTimeBelow t rest upto cycles = (n test : ℕ) → n < upto → slice_get rest n ≡ Some test → ready_at t.job t.placed test + cycles_of t.job test < cycles
 
-some_is : (x y : ℕ) → Some x ≡ Some y → x ≡ y
-some_is x y e = cc
-
 pub in_time_more : (t : TableValue) (rest : List ℕ) (n test cycles estimate : ℕ) → AreInTimeBelow t rest n cycles → slice_get rest n ≡ Some test → ready_at t.job t.placed test + cycles_of t.job test ≤ estimate → estimate < cycles → AreInTimeBelow t rest (n + 1) cycles
 in_time_more t rest n test cycles estimate before at least less m other within at' = elim (cases_order m n) [
   | inl same ↦
-      let is : other ≡ test = some_is other test (sym at' ∙ ap (slice_get rest) same ∙ at) in
+      let is : other ≡ test = some_same other test (sym at' ∙ ap (slice_get rest) same ∙ at) in
       subst (λ (k : ℕ). ready_at t.job t.placed k + cycles_of t.job k < cycles) (sym is) (omega (arith, least, less))
   | inr apart ↦ elim apart [
     | inl lower ↦ before m other lower at'
@@ -49,7 +48,7 @@ in_time_from t rest n test end cycles are before at ends quick other inside free
     let ready = ready-le-last t.job t.placed other in
     elim (cases_order there.0 n) [
       | inl same ↦
-          let is : other ≡ test = some_is other test (sym there.1 ∙ ap (slice_get rest) same ∙ at) in
+          let is : other ≡ test = some_same other test (sym there.1 ∙ ap (slice_get rest) same ∙ at) in
           let long : cycles_of t.job other ≡ cycles_of t.job test = ap (cycles_of t.job) is in
           omega (arith, ready, long, quick, ends)
       | inr apart ↦ elim apart [

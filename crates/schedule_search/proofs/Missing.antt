@@ -6,17 +6,19 @@ use Rattle.std.proofs.lemmas.List.{length-map}
 use Rattle.std.proofs.lemmas.Bool.{cases_Bool, cases_eq, eqb-true, eq-eqb, ne_eqb, and_from}
 use Rattle.std.proofs.lemmas.List.Sums.{sum_by-cons, sum_by_more, sum_by-take-le, list_all-from_AllPass}
 use Rattle.std.proofs.lemmas.List.Elements.{All-contains}
-use Rattle.plan_model.proofs.Lists.{at_contains, contains_at, from_map}
+use Rattle.plan_model.proofs.Lists.{at_contains}
 use Rattle.resource_table.specs.Jobs.{JobValue, Precedes}
 use Rattle.live_tests.specs.declared.neighbours.Neighbours.{Neighbours}
 use Rattle.live_tests.specs.Neighbours.{after, before}
 use Rattle.resource_table.specs.Befores.{listed, tests_before}
-use Rattle.resource_table.proofs.Befores.{eqb_sym, before_from, set_at, set_other, set_length}
+use Rattle.resource_table.proofs.Befores.{before_from, set_at, set_other}
 use Rattle.schedule_search.specs.Walks.{is_in, may_follow}
 use Rattle.schedule_search.specs.Prefixes.{turned, tests_after, one_missing, missing_of, times_in, AreInRange, AreFollowers, AreMissing, AreLess}
 use Rattle.schedule_search.proofs.Predecessors.{at_place}
 use Rattle.schedule_search.proofs.Following.{in_from}
 use Rattle.schedule_search.proofs.Outside.{is_in_push}
+use Rattle.common_lemmas.proofs.Tests.{eq_turned}
+use Rattle.common_lemmas.proofs.Lists.{set_length, contains_at, from_map}
 
 abbrev pub one_of : ℕ → ℕ → ℕ
 one_of t n = if nat_eq n t then 1 else 0
@@ -251,7 +253,7 @@ range_is job pairs count in_range is long k d less =
 -- what is listed beside the live tests are the tests that one precedes
 after_is : (i : ℕ) (pairs : List (ℕ × ℕ)) → after i pairs ≡ tests_after i pairs
 after_is i [] = refl
-after_is i (p ∷ pairs) = by (nat_eq i p.0) (nat_eq p.0 i) (eqb_sym i p.0) (after_is i pairs)
+after_is i (p ∷ pairs) = by (nat_eq i p.0) (nat_eq p.0 i) (eq_turned i p.0) (after_is i pairs)
   where
     by : (b c : Bool) → b ≡ c → after i pairs ≡ tests_after i pairs → cond b (p.1 ∷ after i pairs) (after i pairs) ≡ map (λ (q : ℕ × ℕ). q.0) (cond c (turned p ∷ filter (λ (q : ℕ × ℕ). nat_eq q.1 i) (map turned pairs)) (filter (λ (q : ℕ × ℕ). nat_eq q.1 i) (map turned pairs)))
     by true true e rest = ap (λ (l : List ℕ). p.1 ∷ l) rest
@@ -268,7 +270,7 @@ followers_are job lists count pairs count_is pairs_is long are = record {
 -- what comes before a test is missing where no prefix is
 missing_is : (t : ℕ) (pairs : List (ℕ × ℕ)) → length (before t pairs) ≡ sum_by (one_missing [] t) pairs
 missing_is t [] = refl
-missing_is t (p ∷ pairs) = by (nat_eq t p.1) (nat_eq p.1 t) (eqb_sym t p.1) (missing_is t pairs) ∙ sym (sum_by-cons (one_missing [] t) p pairs)
+missing_is t (p ∷ pairs) = by (nat_eq t p.1) (nat_eq p.1 t) (eq_turned t p.1) (missing_is t pairs) ∙ sym (sum_by-cons (one_missing [] t) p pairs)
   where
     by : (b c : Bool) → b ≡ c → length (before t pairs) ≡ sum_by (one_missing [] t) pairs → length (cond b (p.0 ∷ before t pairs) (before t pairs)) ≡ (if c && true then 1 else 0) + sum_by (one_missing [] t) pairs
     by true true e rest = omega (arith, rest)

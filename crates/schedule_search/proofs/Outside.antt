@@ -11,17 +11,16 @@ use Rattle.plan_model.proofs.Lists.{from_filter}
 use Rattle.resource_table.specs.declared.Placement.{Placement}
 use Rattle.resource_table.specs.Jobs.{JobValue, cycles_of}
 use Rattle.resource_table.specs.Schedules.{is_placed}
-use Rattle.resource_table.proofs.Places.{in_filter}
 use Rattle.schedule_search.specs.Walks.{goes_before, put_by_length, first_by_length, by_length, is_in, may_follow}
 use Rattle.schedule_search.specs.Late.{AreUnplaced}
 use Rattle.schedule_search.specs.Prefixes.{outside, followers, IsWithout}
 use Rattle.schedule_search.proofs.Comparing.{AreInOrder, goes_to, first_in_order, first_within, first_has, in_order_at}
-use Rattle.schedule_search.proofs.Following.{in_placed, not_true}
+use Rattle.schedule_search.proofs.Following.{in_placed}
+use Rattle.common_lemmas.proofs.Tests.{or_assoc, or_false_right, not_true}
+use Rattle.common_lemmas.proofs.Options.{some_same}
+use Rattle.common_lemmas.proofs.Lists.{in_filter}
 
 -- ---- an item is put back
-
-some_is : (x y : ℕ) → Some x ≡ Some y → x ≡ y
-some_is x y e = cc
 
 pub remove_next : (xs : List ℕ) (k d : ℕ) → suc k < length xs → set (remove xs k) k (get_or xs k d) ≡ remove xs (suc k)
 remove_next [] k d within = absurd (omega (arith, within))
@@ -38,7 +37,7 @@ last_item (y ∷ xs) x (suc place) is = let rest = last_item xs x place (omega (
 
 pub insert_removed : (xs : List ℕ) (k x : ℕ) → slice_get xs k ≡ Some x → insert (remove xs k) k x ≡ xs
 insert_removed [] k x at = absurd cc
-insert_removed (y ∷ xs) zero x at = ap (λ (n : ℕ). n ∷ xs) (sym (some_is y x at))
+insert_removed (y ∷ xs) zero x at = ap (λ (n : ℕ). n ∷ xs) (sym (some_same y x at))
 insert_removed (y ∷ xs) (suc k) x at = ap (λ l. y ∷ l) (insert_removed xs k x at)
 
 -- ---- how many pass a test
@@ -106,7 +105,7 @@ filter_without job p q x (y ∷ ys) zero without order at = elim (cases_Bool (p 
       let out : q y ≡ false = without y ∙ ap (λ b. b && not (nat_eq x y)) no' in
       rw (no', out) (filter_without job p q x ys zero without order.1 (rw no' at at))
   | inl yes' ↦
-      let same : x ≡ y = sym (some_is y x (rw yes' at at)) in
+      let same : x ≡ y = sym (some_same y x (rw yes' at at)) in
       let out : q y ≡ false = drops_same p q x y without same in
       rw (yes', out) (sym (same_filter p q ys (λ j t there. keeps_other p q x t without (λ e.
       never_itself job y (subst (λ (n : ℕ). goes_before job y n ≡ true) (sym e ∙ same) (from_all job y ys j t there order.0))))))
@@ -125,17 +124,9 @@ filter_without job p q x (y ∷ ys) (suc k) without order at = elim (cases_Bool 
 
 -- ---- what stands in a prefix
 
-or_false : (b : Bool) → (b || false) ≡ b
-or_false true = refl
-or_false false = refl
-
-or_or : (a b d : Bool) → (a || (b || d)) ≡ ((a || b) || d)
-or_or true b d = refl
-or_or false b d = refl
-
 pub is_in_push : (path : List ℕ) (x t : ℕ) → is_in (path ++ x ∷ []) t ≡ (is_in path t || nat_eq x t)
-is_in_push [] x t = or_false (nat_eq x t)
-is_in_push (y ∷ path) x t = ap (λ b. nat_eq y t || b) (is_in_push path x t) ∙ or_or (nat_eq y t) (is_in path t) (nat_eq x t)
+is_in_push [] x t = or_false_right (nat_eq x t)
+is_in_push (y ∷ path) x t = ap (λ b. nat_eq y t || b) (is_in_push path x t) ∙ or_assoc (nat_eq y t) (is_in path t) (nat_eq x t)
 
 not_or : (a b : Bool) → not (a || b) ≡ (not a && not b)
 not_or true b = refl

@@ -5,13 +5,14 @@ use Rattle.std.specs.List.{Contains}
 use Rattle.std.proofs.lemmas.Bool.{cases_Bool, eqb-true, eq-eqb}
 use Rattle.std.proofs.lemmas.List.{take_more, take_at, map-append}
 use Rattle.std.proofs.lemmas.Option.{slice_get-get_or, slice_get-map}
-use Rattle.plan_model.proofs.Lists.{from_map, contains_at, at_contains, any_at, any_from}
+use Rattle.plan_model.proofs.Lists.{at_contains, any_from}
 use Rattle.resource_table.specs.declared.Placement.{Placement}
 use Rattle.resource_table.specs.Jobs.{JobValue, cycles_of, Precedes}
 use Rattle.resource_table.specs.Schedules.{TableValue, at_start, is_placed, last_end, IsEarliest, IsListSchedule}
 use Rattle.resource_table.proofs.Schedules.{last_push, next_list}
 use Rattle.schedule_search.specs.Orders.{IsReady, IsTopological, IsFirstOrder}
 use Rattle.schedule_search.specs.OrderCycles.{Takes, HasPlaced}
+use Rattle.common_lemmas.proofs.Lists.{from_map, contains_at, any_at}
 
 pub placed_has : (placed : List Placement) (tests : List ℕ) (test : ℕ) → map (λ (p : Placement). p.test) placed ≡ tests → Contains tests test → is_placed placed test ≡ true
 placed_has placed tests test is there =

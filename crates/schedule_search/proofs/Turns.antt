@@ -15,6 +15,9 @@ use Rattle.resource_table.specs.Jobs.{JobValue, cycles_of}
 use Rattle.schedule_search.specs.declared.tries.TriedTest.{TriedTest}
 use Rattle.schedule_search.specs.Walks.{goes_before, put_by_length, first_by_length, by_length}
 use Rattle.schedule_search.proofs.Comparing.{AreInOrder, goes_to, first_in_order}
+use Rattle.common_lemmas.proofs.Lists.{sum_map}
+use Rattle.common_lemmas.proofs.Numbers.{not_less}
+use Rattle.common_lemmas.proofs.Ranges.{range_push}
 
 abbrev pub turn_at : JobValue → ℕ → TriedTest
 turn_at job k = record { cycles = record { 0 = cycles_of job k }; place = k }
@@ -65,9 +68,6 @@ same_item_map : (ns : List ℕ) → map (λ (n : ℕ). n) ns ≡ ns
 same_item_map [] = refl
 same_item_map (n ∷ ns) = ap (λ v. n ∷ v) (same_item_map ns)
 
-pub range_push : {X : Type 0} (f : ℕ → X) (n : ℕ) → map f (range_with_len 0 (n + 1)) ≡ map f (range_with_len 0 n) ++ f n ∷ []
-range_push f n = map-range_with_len_more f 0 n n (zero-add n)
-
 sum_first : (job : JobValue) (f : ℕ → ℕ) (count : ℕ) → sum_by f (first_by_length job count) ≡ sum_by f (range_with_len 0 count)
 sum_first job f zero = refl
 sum_first job f (suc count) =
@@ -102,22 +102,6 @@ one_order job (x ∷ xs) (y ∷ ys) same p q =
 
 -- ---- what a sort leaves
 
-not_less : (a b c d : ℕ) → is_lt (ordering_then (nat_cmp a b) (nat_cmp c d)) ≡ false → (b < a) ⊎ ((a ≡ b) × (d ≤ c))
-not_less a b c d h = elim (cases_lt a b) [
-  | inl less ↦ let t : ltb a b ≡ true = lt-ltb a b less in let wrong : true ≡ false = rw t at h in absurd cc
-  | inr no' ↦ elim (cases_eq a b) [
-    | inl e ↦
-        let t : ltb a b ≡ false = le-ltb a b no' in
-        let t' : eqb a b ≡ true = eq-eqb a b e in
-        let h' : is_lt (nat_cmp c d) ≡ false = rw (t, t') at h in
-        elim (cases_lt c d) [
-          | inl less ↦ let u : ltb c d ≡ true = lt-ltb c d less in let wrong : true ≡ false = rw u at h' in absurd cc
-          | inr le ↦ inr (e, le)
-        ]
-    | inr ne ↦ inl (omega (arith, ne))
-  ]
-]
-
 in_order_from : (job : JobValue) (cs : List ℕ) → ((k c d : ℕ) → slice_get cs k ≡ Some c → slice_get cs (suc k) ≡ Some d → MayStandBefore job c d) → InOrder job cs
 in_order_from job [] h = tt
 in_order_from job (c ∷ []) h = (λ n d at. absurd cc, tt)
@@ -128,12 +112,6 @@ in_order_from job (c ∷ e ∷ es) h =
     first : MayStandBefore job c e → ((n d : ℕ) → slice_get es n ≡ Some d → MayStandBefore job e d) → (n d : ℕ) → slice_get (e ∷ es) n ≡ Some d → MayStandBefore job c d
     first b later zero d at = let same : e ≡ d = cc in rw (← same) b
     first b later (suc n) d at = before_trans job c e d b (later n d at)
-
-sum_map : {X : Type 0} (f : ℕ → ℕ) (g : X → ℕ) (xs : List X) → sum_by f (map g xs) ≡ sum_by (λ x. f (g x)) xs
-sum_map f g [] = refl
-sum_map f g (x ∷ xs) =
-    let ih : sum_by f (map g xs) ≡ sum_by (λ x. f (g x)) xs = sum_map f g xs in
-    omega (arith, sum_by-cons f (g x) (map g xs), sum_by-cons (λ x. f (g x)) x xs)
 
 all_turn_at : (job : JobValue) (ns : List ℕ) → All (λ (t : TriedTest). t.cycles.0 ≡ cycles_of job t.place) (map (turn_at job) ns)
 all_turn_at job [] k d h = absurd (omega arith)

@@ -5,7 +5,7 @@ use Rattle.std.specs.List.{Contains, remove}
 use Rattle.std.proofs.lemmas.Bool.{cases_Bool, cases_eq, eqb-true, eq-eqb, ne_eqb}
 use Rattle.std.proofs.lemmas.List.Sums.{sum_by-take-le}
 use Rattle.plan_model.specs.Rules.{Each}
-use Rattle.plan_model.proofs.Lists.{contains_at, at_contains}
+use Rattle.plan_model.proofs.Lists.{at_contains}
 use Rattle.resource_table.specs.Jobs.{JobValue, Precedes}
 use Rattle.resource_table.proofs.Befores.{set_other}
 use Rattle.resource_table.proofs.Placed.{each_front, each_last}
@@ -16,6 +16,7 @@ use Rattle.schedule_search.proofs.Comparing.{first_in_order}
 use Rattle.schedule_search.proofs.Following.{in_to, not_in, in_front}
 use Rattle.schedule_search.proofs.Missing.{one_of, follows_from, follows_not, missing_less, missing_ready, times_more, one_here}
 use Rattle.schedule_search.proofs.Outside.{filter_without, is_in_push, known_at, outside_has, passing_at, same_filter}
+use Rattle.common_lemmas.proofs.Lists.{contains_at}
 
 -- ---- these are the tests that may follow
 

@@ -7,7 +7,7 @@ use Rattle.std.proofs.lemmas.List.{append-nil}
 use Rattle.std.proofs.lemmas.List.Elements.{All-contains}
 use Rattle.std.proofs.lemmas.Option.{slice_get_within}
 use Rattle.plan_model.specs.Rules.{Each}
-use Rattle.plan_model.proofs.Lists.{contains_at, at_contains, from_append, from_flat_map}
+use Rattle.plan_model.proofs.Lists.{at_contains, from_append, from_flat_map}
 use Rattle.resource_table.specs.Jobs.{JobValue, Precedes, IsSoundJob}
 use Rattle.resource_table.specs.Befores.{tests_before}
 use Rattle.resource_table.proofs.Befores.{before_from, before_has}
@@ -20,6 +20,7 @@ use Rattle.schedule_search.proofs.Comparing.{AreInOrder, first_in_order, same_st
 use Rattle.schedule_search.proofs.Following.{in_from, in_to, not_in}
 use Rattle.schedule_search.proofs.Outside.{order_filter, outside_at, outside_has, outside_less, from_all}
 use Rattle.schedule_search.proofs.Walking.{below, extends_in, in_walk_ready}
+use Rattle.common_lemmas.proofs.Lists.{contains_at}
 
 -- ---- the order of the entries
 

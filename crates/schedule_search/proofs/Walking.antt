@@ -7,16 +7,16 @@ use Rattle.std.proofs.lemmas.List.{append-nil, take_all, take_more, take-append-
 use Rattle.std.proofs.lemmas.List.Elements.{All-nil, All-cons, All-append, All-weaker, All-contains}
 use Rattle.std.proofs.lemmas.Option.{slice_get_within, get_or_from_slice_get}
 use Rattle.plan_model.specs.Rules.{Each}
-use Rattle.plan_model.proofs.Lists.{at_contains, contains_at, from_filter, from_flat_map, in_flat_map}
+use Rattle.plan_model.proofs.Lists.{at_contains, from_filter, from_flat_map, in_flat_map}
 use Rattle.resource_table.specs.Jobs.{JobValue}
 use Rattle.resource_table.proofs.Placed.{each_push, each_front, each_last}
 use Rattle.schedule_search.specs.Orders.{IsReady, IsTopological}
 use Rattle.schedule_search.specs.Walks.{by_length, may_follow, walk_from, walk}
-use Rattle.resource_table.proofs.Places.{in_filter}
 use Rattle.schedule_search.specs.Prefixes.{followers}
 use Rattle.schedule_search.proofs.Following.{ready_from, ready_to}
 use Rattle.schedule_search.proofs.Comparing.{first_within, first_has}
 use Rattle.schedule_search.proofs.Counting.{ready_few, topological_long}
+use Rattle.common_lemmas.proofs.Lists.{in_filter, contains_at}
 
 -- what a walk tries below a prefix
 abbrev pub below : JobValue → ℕ → List ℕ → ℕ → List (List ℕ)

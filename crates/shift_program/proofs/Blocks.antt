@@ -7,11 +7,9 @@ use Rattle.std.proofs.lemmas.List.Sums.{sum_by-cons}
 use Rattle.plan_model.specs.Operations.{Operation, Setup, Shift, Capture, SelfTest}
 use Rattle.shift_program.specs.RightPrograms.{is_shift, is_capture}
 use Rattle.shift_program.specs.Faults.{shifts_since}
+use Rattle.common_lemmas.proofs.Lists.{count_cons}
 
 -- ---- counting
-
-pub count_cons : {X : Type 0} (p : X → Bool) (x : X) (xs : List X) → count_by p (x ∷ xs) ≡ cond (p x) 1 0 + count_by p xs
-count_cons p x xs = sum_by-cons (λ x. cond (p x) 1 0) x xs
 
 -- the Shifts up to the next capture or to the end
 abbrev pub block : List Operation → ℕ

@@ -8,7 +8,7 @@ use Rattle.std.proofs.lemmas.List.Concat.{flat_map-append}
 use Rattle.std.proofs.lemmas.List.Elements.{All-nil, All-push, All-head, All-tail}
 use Rattle.std.proofs.lemmas.Option.{slice_get_within}
 use Rattle.plan_model.specs.Operations.{Operation, Setup, Shift, Capture, SelfTest}
-use Rattle.plan_model.proofs.Lists.{any_at, any_from}
+use Rattle.plan_model.proofs.Lists.{any_from}
 use Rattle.shift_program.specs.declared.Entry.{Entry}
 use Rattle.shift_program.specs.declared.Entry.TheVariants as entry
 use Rattle.shift_program.specs.declared.ProgramFault.{ProgramFault}
@@ -18,7 +18,8 @@ use Rattle.shift_program.specs.declared.counting.Passed.{Passed}
 use Rattle.shift_program.specs.Programs.{entry_operations, operations}
 use Rattle.shift_program.specs.Faults.{Needed, shifts_since, patterns_of, captured, is_rest, Rests, StartsEarly, CapturesWrong, LoadsFew, EndsBlock, UnloadsFew, MissesPatterns, Has, place_of, rank, Before, IsFault, IsFaultless}
 use Rattle.shift_program.specs.Counting.{needed_by, AreCounted, passed_more, starts_early, is_wrong, unloads_few, shift_fault, capture_fault, entry_fault, end_fault}
-use Rattle.shift_program.proofs.Entries.{in_front, of_front, CaptureBefore}
+use Rattle.shift_program.proofs.Entries.{CaptureBefore}
+use Rattle.common_lemmas.proofs.Lists.{from_take, in_take, any_at}
 
 -- ---- one entry more
 
@@ -121,12 +122,12 @@ capture_from : (es : List Entry) (i : ℕ) → 0 < length (captured (take i es))
 capture_from es i some =
     let k = first_item (captured (take i es)) some in
     let q = captured_at (take i es) 0 k.0 k.1 in
-    let r = in_front es i q.0 (entry.Capture k.0) q.1 in
+    let r = from_take es i q.0 (entry.Capture k.0) q.1 in
     (q.0, k.0, r.0, r.1)
 
 from_capture : (es : List Entry) (i : ℕ) → CaptureBefore es i → 0 < length (captured (take i es))
 from_capture es i c =
-    let j = at_captured (take i es) c.0 c.1 (of_front es i c.0 (entry.Capture c.1) c.2 c.3) in
+    let j = at_captured (take i es) c.0 c.1 (in_take es i c.0 (entry.Capture c.1) c.2 c.3) in
     let within = slice_get_within (captured (take i es)) j.0 c.1 j.1 in
     omega (arith, within)
 
@@ -159,7 +160,7 @@ wrong_if need es i k at yes' = by (or_cases (nat_lt k 1) (nat_lt need.patterns k
         let r = any_at (nat_eq k) (captured (take i es)) e in
         let same : k ≡ r.1 = eqb-true k r.1 r.3 in
         let q = captured_at (take i es) r.0 r.1 r.2 in
-        let f = in_front es i q.0 (entry.Capture r.1) q.1 in
+        let f = from_take es i q.0 (entry.Capture r.1) q.1 in
         record { pattern = k; there = at; wrong = inr (inr (q.0, f.0, f.1 ∙ ap (λ v. Some (entry.Capture v)) (sym same))) }
 
     rest : (nat_lt need.patterns k ≡ true) ⊎ (list_any (nat_eq k) (captured (take i es)) ≡ true) → CapturesWrong (needed_by need) es i
@@ -189,7 +190,7 @@ not_wrong need es i k at no' w = by w.wrong
     by (inl none) = let low : 1 ≤ k = ltb-false k 1 parts.0 in omega (arith, low, none, same)
     by (inr (inl past)) = let fits : k ≤ need.patterns = ltb-false need.patterns k others.0 in omega (arith, fits, past, same)
     by (inr (inr before)) =
-        let j = at_captured (take i es) before.0 w.pattern (of_front es i before.0 (entry.Capture w.pattern) before.1 before.2) in
+        let j = at_captured (take i es) before.0 w.pattern (in_take es i before.0 (entry.Capture w.pattern) before.1 before.2) in
         let any : list_any (nat_eq k) (captured (take i es)) ≡ true = any_from (nat_eq k) (captured (take i es)) j.0 w.pattern j.1 (eq-eqb k w.pattern (sym same)) in
         let none = others.1 in
         cc

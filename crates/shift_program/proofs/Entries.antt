@@ -9,6 +9,7 @@ use Rattle.shift_program.specs.declared.Entry.{Entry}
 use Rattle.shift_program.specs.declared.Entry.TheVariants as entry
 use Rattle.shift_program.specs.Programs.{entry_operations, operations}
 use Rattle.shift_program.proofs.Blocks.{has_capture}
+use Rattle.common_lemmas.proofs.Lists.{in_take, from_take, take_front}
 
 -- ---- lists
 
@@ -21,24 +22,6 @@ parted (y ∷ xs) (suc i) x e = ap (λ v. y ∷ v) (parted xs i x e)
 pub at_seam : {X : Type 0} (a : List X) (x : X) (b : List X) → slice_get (a ++ x ∷ b) (length a) ≡ Some x
 at_seam [] x b = refl
 at_seam (y ∷ a) x b = at_seam a x b
-
-pub up_to_seam : {X : Type 0} (a b : List X) → take (length a) (a ++ b) ≡ a
-up_to_seam [] [] = refl
-up_to_seam [] (x ∷ b) = refl
-up_to_seam (y ∷ a) b = ap (λ v. y ∷ v) (up_to_seam a b)
-
-pub in_front : {X : Type 0} (xs : List X) (i q : ℕ) (x : X) → slice_get (take i xs) q ≡ Some x → (q < i) × (slice_get xs q ≡ Some x)
-in_front [] zero q x e = absurd cc
-in_front [] (suc i) q x e = absurd cc
-in_front (y ∷ xs) zero q x e = absurd cc
-in_front (y ∷ xs) (suc i) zero x e = (omega arith, e)
-in_front (y ∷ xs) (suc i) (suc q) x e = let r = in_front xs i q x e in let less : q < i = r.0 in (omega (arith, less), r.1)
-
-pub of_front : {X : Type 0} (xs : List X) (i q : ℕ) (x : X) → q < i → slice_get xs q ≡ Some x → slice_get (take i xs) q ≡ Some x
-of_front [] i q x less e = absurd cc
-of_front (y ∷ xs) zero q x less e = absurd (omega (arith, less))
-of_front (y ∷ xs) (suc i) zero x less e = e
-of_front (y ∷ xs) (suc i) (suc q) x less e = of_front xs i q x (omega (arith, less)) e
 
 nothing_at : {X : Type 0} (m n : ℕ) → slice_get {X = X} [] m ≡ slice_get [] n
 nothing_at zero zero = refl
@@ -75,7 +58,7 @@ capture_at es i k at =
     let whole : operations es ≡ operations (take i es) ++ Capture k ∷ operations (drop (suc i) es) = parted_at es i (entry.Capture k) at in
     record {
       captures = ap (λ v. slice_get v (length (operations (take i es)))) whole ∙ at_seam (operations (take i es)) (Capture k) (operations (drop (suc i) es));
-      before = ap (take (length (operations (take i es)))) whole ∙ up_to_seam (operations (take i es)) (Capture k ∷ operations (drop (suc i) es));
+      before = ap (take (length (operations (take i es)))) whole ∙ take_front (operations (take i es)) (Capture k ∷ operations (drop (suc i) es));
     }
 
 -- the entry of a Capture
@@ -146,11 +129,11 @@ pub captured_before : (es : List Entry) (i : ℕ) → has_capture false (operati
 captured_before es i e =
     let n = has_where (operations (take i es)) e in
     let f = entry_of (take i es) n.0 n.1 n.2 in
-    let r = in_front es i f.place (entry.Capture n.1) f.there in
+    let r = from_take es i f.place (entry.Capture n.1) f.there in
     (f.place, n.1, r.0, r.1)
 
 pub before_captured : (es : List Entry) (i : ℕ) → CaptureBefore es i → has_capture false (operations (take i es)) ≡ true
 before_captured es i c =
-    let there = of_front es i c.0 (entry.Capture c.1) c.2 c.3 in
+    let there = in_take es i c.0 (entry.Capture c.1) c.2 c.3 in
     let a = capture_at (take i es) c.0 c.1 there in
     has_here false (operations (take i es)) (length (operations (take c.0 (take i es)))) c.1 a.captures

@@ -12,7 +12,7 @@ use Rattle.plan_model.specs.Plans.{si_of, so_of}
 use Rattle.plan_model.specs.OneTest.{ReadsEnd}
 use Rattle.plan_model.proofs.CellOrder.{LoadsFront}
 use Rattle.plan_model.proofs.Greatest.{le-greatest_at}
-use Rattle.plan_model.proofs.Lists.{in_append_left, slice_get-replicate}
+use Rattle.plan_model.proofs.Lists.{slice_get-replicate}
 use Rattle.shift_program.specs.declared.Entry.{Entry}
 use Rattle.shift_program.specs.declared.Entry.TheVariants as entry
 use Rattle.shift_program.specs.declared.ProgramFault.TheVariants as fault
@@ -24,6 +24,7 @@ use Rattle.shift_program.proofs.Runs.{driven, loaded, shown}
 use Rattle.shift_program.proofs.Entries.{at_drop, capture_at, EntryOf, entry_of, CaptureBefore, captured_before, parted_at}
 use Rattle.shift_program.proofs.Patterns.{AreApart, AreWithin, all_captured}
 use Rattle.shift_program.proofs.Lengths.{long_enough, captures_of}
+use Rattle.common_lemmas.proofs.Lists.{at_left}
 
 -- the cells of each chain stand in their order
 pub record AreOrdered (chains : List (List Cell)) : Type 0 where
@@ -146,7 +147,7 @@ rest_at (entry.Rest c ∷ es) n all h = by (cases_lt n c) (λ m less. rest_at es
     behind (suc c) (suc n) past = let same : suc n - suc c ≡ n - c = omega arith in rw same (behind c n (omega (arith, past)))
 
     by : (n < c) ⊎ (c ≤ n) → ((m : ℕ) → m < length (operations es) → slice_get (operations es) m ≡ Some Setup) → slice_get (replicate c Setup ++ operations es) n ≡ Some Setup
-    by (inl less) later = in_append_left (replicate c Setup) (operations es) n Setup (slice_get-replicate c n Setup less)
+    by (inl less) later = at_left (replicate c Setup) (operations es) n Setup (slice_get-replicate c n Setup less)
     by (inr past) later = behind c n past ∙ later (n - c) (omega (arith, h, past, length-append (replicate c Setup) (operations es), length-replicate c Setup))
 rest_at (entry.Shift c ∷ es) n all h = let e : false ≡ true = All-head Rests (entry.Shift c) es all in absurd cc
 rest_at (entry.Capture k ∷ es) n all h = let e : false ≡ true = All-head Rests (entry.Capture k) es all in absurd cc
@@ -158,7 +159,7 @@ rests t es live none n less = by (first_act es)
     go f (inl few) = absurd (none (fault.Setup f.place) (record { entry = f.entry; there = f.there; acts = f.acts; first = f.first; few = few }))
     go f (inr all) =
         rw (parted_at es f.place f.entry f.there)
-        (in_append_left (operations (take f.place es)) (entry_operations f.entry ++ operations (drop (suc f.place) es)) n Setup (rest_at (take f.place es) n f.first (omega (arith, less, all))))
+        (at_left (operations (take f.place es)) (entry_operations f.entry ++ operations (drop (suc f.place) es)) n Setup (rest_at (take f.place es) n f.first (omega (arith, less, all))))
 
     by : All Rests es ⊎ FirstAct es → slice_get (operations es) n ≡ Some Setup
     by (inl all) =

@@ -9,6 +9,7 @@ use Rattle.shift_program.specs.declared.Entry.TheVariants as entry
 use Rattle.shift_program.specs.Programs.{operations}
 use Rattle.shift_program.specs.Faults.{captured}
 use Rattle.shift_program.proofs.Blocks.{AreSpaced, spaced_shift, spaced_capture, spaced_setup, spaced_self}
+use Rattle.common_lemmas.proofs.Numbers.{product_out}
 
 -- how many operations of each kind there are
 abbrev pub shifts_in : List Operation → ℕ
@@ -84,9 +85,6 @@ enough_shifts si so n c (SelfTest ∷ ops) s e = enough_shifts si so n c ops (sp
 one_less : (n : ℕ) → 1 ≤ n → (c : ℕ) × (n ≡ suc c)
 one_less zero h = absurd (omega (arith, h))
 one_less (suc c) h = (c, refl)
-
-product_out : (b m : ℕ) → (1 + b) * suc m ≡ suc m + m * b + b
-product_out b m = omega arith
 
 pub long_enough : (setup si so p : ℕ) (ops : List Operation) → 1 ≤ p → ((n : ℕ) → n < setup → slice_get ops n ≡ Some Setup) → p ≤ captures_in ops → AreSpaced si so false 0 ops → length (ops_of setup si so p) ≤ length ops
 long_enough setup si so zero ops live rests captures s = absurd (omega (arith, live))

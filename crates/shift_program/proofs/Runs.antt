@@ -15,7 +15,8 @@ use Rattle.plan_model.proofs.CellOrder.{LoadsFront}
 use Rattle.plan_model.proofs.LawOfOneTest.{reverse_is}
 use Rattle.shift_program.specs.RightPrograms.{TestContent, bits_before, is_shift}
 use Rattle.shift_program.specs.Faults.{shifts_since}
-use Rattle.shift_program.proofs.Blocks.{ShiftAt, rest_of, count_cons, since_more, past_end}
+use Rattle.shift_program.proofs.Blocks.{ShiftAt, rest_of, since_more, past_end}
+use Rattle.common_lemmas.proofs.Lists.{count_cons}
 
 pub length-bits_before : (content : TestContent) (cells : List Cell) (ops : List Operation) (drive : ℕ → Bool) (n : ℕ) → length (bits_before content cells ops drive n) ≡ length cells
 unfolding bits_before

@@ -12,6 +12,7 @@ use Rattle.soc_model.specs.declared.Module.{Module}
 use Rattle.soc_model.specs.declared.Soc.{Soc}
 use Rattle.soc_model.specs.Chips.{ModuleValue, module_value, soc_value}
 use Rattle.soc_model.specs.Sizes.{all_tests}
+use Rattle.common_lemmas.proofs.Options.{none_from}
 
 abbrev pub key_of : ℕ × Module → ℕ
 key_of e = e.0
@@ -38,10 +39,6 @@ pub level-at : (ms : List ModuleValue) (i : ℕ) (m : ModuleValue) → slice_get
 level-at [] i m at = grind (arith, common_steps)
 level-at (x ∷ ms) zero m at = grind (arith, common_steps)
 level-at (x ∷ ms) (suc i) m at = level-at ms i m at
-
-none_from : {X : Type 0} (o : Option X) (b : Bool) → b ≡ is_some o → b ≡ false → o ≡ None
-none_from None b is absent = refl
-none_from (Some x) b is absent = cc
 
 -- the entries after a new module
 pub pushed : (s : Soc) (n : ℕ) (m : Module) (b : Bool) → b ≡ is_some (get nat_eq s.modules n) → b ≡ false → insert_entry nat_eq s.modules.entries n m ≡ s.modules.entries ++ (n, m) ∷ []

@@ -8,9 +8,7 @@ use Rattle.soc_model.specs.declared.Module.{Module}
 use Rattle.soc_model.specs.SoundChips.{AllDiffer}
 use Rattle.soc_model.proofs.Entries.{key_of}
 use Rattle.soc_model.proofs.Places.{position-from_slice_get}
-
-same_number : (n : ℕ) → nat_eq n n ≡ true
-same_number n = grind (arith, common_steps)
+use Rattle.common_lemmas.proofs.Tests.{same_number}
 
 nothing : (n p : ℕ) → slice_get {X = ℕ} [] p ≡ Some n → ⊥
 nothing n p at = omega (arith, slice_get_within {A = ℕ} [] p n at)

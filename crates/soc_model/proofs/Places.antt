@@ -10,6 +10,7 @@ use Rattle.soc_model.specs.declared.TestId.{TestId}
 use Rattle.soc_model.specs.Chips.{ModuleValue, SocValue, numbers}
 use Rattle.soc_model.specs.Lookups.{module_place, test_places, tests_of, with_test}
 use Rattle.soc_model.specs.SoundChips.{AllDiffer, IsSoundChip}
+use Rattle.common_lemmas.proofs.Options.{cond_none}
 
 -- a test's places, where its module is at a place
 pub test_places-at : (soc : SocValue) (id : TestId) (p : ℕ) (m : ModuleValue) → module_place soc id.module ≡ Some p → slice_get soc.modules p ≡ Some m → test_places soc id ≡ option_map (λ (n : ℕ). (p, n)) (position (λ (t : Test). nat_eq id.test t.number) m.tests)
@@ -25,15 +26,11 @@ slice_get-from_position ns n p e =
     let same : get_or ns p 0 ≡ n = grind (arith, nat_tests) in
     slice_get-get_or ns p 0 at.0 ∙ ap Some same
 
-false_from : {X : Type 0} (b : Bool) (x : X) → cond b (Some x) None ≡ None → b ≡ false
-false_from true x e = cc
-false_from false x e = refl
-
 -- a number that stands somewhere is found
 position-none : (ns : List ℕ) (n p : ℕ) → slice_get ns p ≡ Some n → position (nat_eq n) ns ≡ None → ⊥
 position-none ns n p at none =
     let within = slice_get_within ns p n at in
-    let past = false_from (nat_lt (position_or_len (nat_eq n) ns) (length ns)) (position_or_len (nat_eq n) ns) none in
+    let past = cond_none (nat_lt (position_or_len (nat_eq n) ns) (length ns)) (position_or_len (nat_eq n) ns) none in
     let before : p < position_or_len (nat_eq n) ns = grind (arith, nat_tests) in
     let fails = fails_before_first (nat_eq n) ns p 0 before in
     let same = get_or_from_slice_get ns p n 0 at in

@@ -13,6 +13,7 @@ use Rattle.soc_model.specs.declared.TheConstants.{CHAINS_MOST, POWER_MOST}
 use Rattle.soc_model.specs.declared.Which.TheVariants.{Tests, Chains, Power}
 use Rattle.soc_model.specs.Chips.{ModuleValue, SocValue, module_value, LiveTest, is_live, live_of, live_from}
 use Rattle.soc_model.specs.Sizes.{HasSmall, HasSmallNumbers, all_tests, test_numbers, test_work, work, over, passed}
+use Rattle.common_lemmas.proofs.Lists.{sum_map}
 
 -- ---- lists in general
 
@@ -32,9 +33,6 @@ pub flat_from_all : {X Y : Type 0} (P : Y → Type 0) (f : X → List Y) (xs : L
 flat_from_all P f [] h = λ k d lt. absurd (omega arith)
 flat_from_all P f (x ∷ xs) h = All-append P (f x) (flat_map f xs) (All-head (λ x. All P (f x)) x xs h) (flat_from_all P f xs (All-tail (λ x. All P (f x)) x xs h))
 
-pub sum_by-map : {X Y : Type 0} (f : Y → ℕ) (g : X → Y) (xs : List X) → sum_by f (map g xs) ≡ sum_by (λ x. f (g x)) xs
-sum_by-map f g xs = fold-map (λ (s : ℕ) (y : _). s + f y) g 0 xs
-
 pub find_first : {X : Type 0} (p : X → Bool) (xs ys : List X) (v : X) → Some v ≡ find p xs → Some v ≡ find p (xs ++ ys)
 find_first p xs ys v e = rw (find-append p xs ys, ← e) refl
 
@@ -52,7 +50,7 @@ unfolding live_from
 work_from place [] = refl
 work_from place (m ∷ ms) =
     sum_by-append (λ (l : LiveTest). test_work l.core l.test) (live_of place m) (live_from (place + 1) ms)
-    ∙ ap (λ n. n + sum_by (λ (l : LiveTest). test_work l.core l.test) (live_from (place + 1) ms)) (sum_by-map (λ (l : LiveTest). test_work l.core l.test) (λ (t : Test). record { place = place; core = m; test = t }) (filter is_live m.tests))
+    ∙ ap (λ n. n + sum_by (λ (l : LiveTest). test_work l.core l.test) (live_from (place + 1) ms)) (sum_map (λ (l : LiveTest). test_work l.core l.test) (λ (t : Test). record { place = place; core = m; test = t }) (filter is_live m.tests))
     ∙ ap (λ n. work_in m + n) (work_from (place + 1) ms)
     ∙ sym (sum_by-cons work_in m ms)
 

@@ -10,6 +10,7 @@ use Rattle.soc_model.specs.SoundChips.{AllDiffer}
 use Rattle.soc_reader.specs.Drafts.{test_numbers}
 use Rattle.soc_reader.proofs.Places.{any-numbers}
 use Rattle.soc_reader.specs.Meaning.{change_at, change_found, at_module, at_test, with_module, with_test, new_test}
+use Rattle.common_lemmas.proofs.Lists.{at_seam, at_left}
 
 -- a number that does not stand in a list
 abbrev pub IsAbsent : ℕ → List ℕ → Type 0
@@ -35,15 +36,6 @@ there-last (k ∷ ns) m = rw (there-last ns m) (or_true (nat_eq m k))
 
 -- ---- lists of different numbers
 
-at_left : (ns more : List ℕ) (p n : ℕ) → slice_get ns p ≡ Some n → slice_get (ns ++ more) p ≡ Some n
-at_left [] more p n at = cc
-at_left (x ∷ ns) more zero n at = at
-at_left (x ∷ ns) more (suc p) n at = at_left ns more p n at
-
-pub at_end : {A : Type 0} (xs more : List A) (x : A) → slice_get (xs ++ x ∷ more) (length xs) ≡ Some x
-at_end [] more x = refl
-at_end (y ∷ xs) more x = at_end xs more x
-
 record HasPlace (ns : List ℕ) (n : ℕ) : Type 0 where
   place : ℕ
   within : place < length ns
@@ -68,7 +60,7 @@ absent-from_differ ns more n differ = by (list_any (nat_eq n) ns) refl
     by false e = e
     by true e =
         let found = place_from ns n e in
-        let same = differ found.place (length ns) n (at_left ns (n ∷ more) found.place n found.at) (at_end ns more n) in
+        let same = differ found.place (length ns) n (at_left ns (n ∷ more) found.place n found.at) (at_seam ns more n) in
         let within = found.within in
         absurd (omega arith)
 

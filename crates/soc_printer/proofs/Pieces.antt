@@ -2,14 +2,6 @@
 use Rattle.std.proofs.Common.{◌≡◌, ℕ, List, [], ◌∷◌, ◌++◌, refl, sym, ◌∙◌, ap, append_assoc, Result, Ok, Err, OnOk}
 use Rattle.soc_printer.specs.SocText.{spaced}
 
-pub on_ok : {A E P Q : Type 0} (r : Result A E) → (P → Q) → OnOk r P → OnOk r Q
-on_ok (Ok x) f p = f p
-on_ok (Err e) f p = p
-
--- two pieces behind a text are one
-pub join : (first second third a b : List ℕ) → second ≡ first ++ a → third ≡ second ++ b → third ≡ first ++ (a ++ b)
-join first second third a b more most = most ∙ ap (λ t. t ++ b) more ∙ append_assoc first a b
-
 pub spaced-append : (ws more : List (List ℕ)) → spaced (ws ++ more) ≡ spaced ws ++ spaced more
 spaced-append [] more = refl
 spaced-append (w ∷ ws) more = ap (λ t. (32 ∷ w) ++ t) (spaced-append ws more) ∙ sym (append_assoc (32 ∷ w) (spaced ws) (spaced more))

@@ -23,10 +23,11 @@ use Rattle.soc_reader.specs.Meaning.{empty_chip, says, wrong_total, module_count
 use Rattle.soc_reader.specs.ChipForm.{SaysChip}
 use Rattle.soc_printer.specs.SocText.{flag_word, name_line, total_line, options_line, module_text, soc_text}
 use Rattle.soc_printer.proofs.PrintedWords.{soc_name-key, total_modules-key, options-key, power_flag-key, xy_flag-key, name-printable}
-use Rattle.soc_printer.proofs.LastChanges.{IsAbsent, numbers_of, numbers-push, upto, with_last, absent-from_differ, at_end}
+use Rattle.soc_printer.proofs.LastChanges.{IsAbsent, numbers_of, numbers-push, upto, with_last, absent-from_differ}
 use Rattle.soc_printer.proofs.Steps.{ReadSoFar, push, number-follows, flag-follows}
 use Rattle.soc_printer.proofs.ModuleReads.{IsPrintable, line-reads, tests_line-reads, tests-read, tests_words, all_test_words, no_wrong}
 use Rattle.soc_printer.proofs.LineWords.{behind, modules_words, modules-words, head_words, head-words, name_line-words}
+use Rattle.common_lemmas.proofs.Lists.{at_seam}
 
 -- ---- sound chips can be printed
 
@@ -147,7 +148,7 @@ first_lines whole (b ∷ bs) same is small are =
 
 tests_counted : (whole : SocValue) → IsSoundChip whole → (done more : List ModuleValue) (m : ModuleValue) → whole.modules ≡ done ++ m ∷ more → test_count whole m.number (length m.tests) ≡ true
 tests_counted whole sound done more m split =
-    let at : slice_get whole.modules (length done) ≡ Some m = ap (λ ms. slice_get ms (length done)) split ∙ at_end done more m in
+    let at : slice_get whole.modules (length done) ≡ Some m = ap (λ ms. slice_get ms (length done)) split ∙ at_seam done more m in
     let place : module_place whole m.number ≡ Some (length done) = place-from_module (IsKeyed-from_sound sound) (length done) m at in
     rw place (rw at (eq-eqb (length m.tests) (length m.tests) refl))
 

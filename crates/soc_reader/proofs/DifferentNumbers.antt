@@ -4,6 +4,8 @@ use Rattle.std.specs.List.{list_any}
 use Rattle.std.proofs.lemmas.Bool.Decides.{nat_tests}
 use Rattle.std.proofs.lemmas.Option.{same_Some}
 use Rattle.soc_model.specs.SoundChips.{AllDiffer}
+use Rattle.std.proofs.lemmas.Bool.{or_right}
+use Rattle.common_lemmas.proofs.Tests.{same_number}
 
 -- ---- places
 
@@ -14,17 +16,10 @@ old_or_last [] n (suc p) v at = cc
 old_or_last (x ∷ ns) n zero v at = inl at
 old_or_last (x ∷ ns) n (suc p) v at = elim (old_or_last ns n p v at) [ inl old ↦ inl old | inr last ↦ inr (ap suc last.0, last.1) ]
 
-eq-refl : (n : ℕ) → nat_eq n n ≡ true
-eq-refl n = grind (arith, nat_tests)
-
-later : (b c : Bool) → c ≡ true → (b || c) ≡ true
-later true c e = refl
-later false c e = e
-
 found_at : (ns : List ℕ) (p n : ℕ) → slice_get ns p ≡ Some n → list_any (nat_eq n) ns ≡ true
 found_at [] p n at = cc
-found_at (x ∷ ns) zero n at = ap (λ b. b || list_any (nat_eq n) ns) (ap (nat_eq n) (same_Some x n at) ∙ eq-refl n)
-found_at (x ∷ ns) (suc p) n at = later (nat_eq n x) (list_any (nat_eq n) ns) (found_at ns p n at)
+found_at (x ∷ ns) zero n at = ap (λ b. b || list_any (nat_eq n) ns) (ap (nat_eq n) (same_Some x n at) ∙ same_number n)
+found_at (x ∷ ns) (suc p) n at = or_right (nat_eq n x) (list_any (nat_eq n) ns) (found_at ns p n at)
 
 -- ---- one more number
 

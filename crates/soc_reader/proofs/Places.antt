@@ -135,10 +135,6 @@ numbers-found (Some place) f ts keeps = numbers-change place f ts keeps
 abbrev pub with_lists : Soc → List ℕ → List ModuleValue → SocValue
 with_lists soc ks ms = record (soc_value soc) { keys = ks; modules = ms }
 
-pub on_ok : {A E P Q : Type 0} (r : Result A E) → (P → Q) → OnOk r P → OnOk r Q
-on_ok (Ok x) f p = f p
-on_ok (Err e) f p = p
-
 pub soc-changed : (soc : Soc) (n : ℕ) (change : ModuleValue → ModuleValue) (place : ℕ) (old new : Module) (o : Option ℕ) → o ≡ module_place (soc_value soc) n → o ≡ Some place → slice_get (map {A = ℕ × Module} (λ e. e.1) soc.modules.entries) place ≡ Some old → module_value new ≡ change (module_value old)
     → with_lists soc (map key_of (set_value_at soc.modules.entries place new)) (map value_of (set_value_at soc.modules.entries place new)) ≡ at_module n change (soc_value soc)
 soc-changed soc n change place old new o is some at changes =

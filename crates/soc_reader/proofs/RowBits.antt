@@ -16,8 +16,8 @@ use Rattle.soc_reader.specs.declared.keys.Subject.{Subject}
 use Rattle.soc_reader.specs.declared.keys.Subject.TheVariants.{Chip, OfModule, OfTest}
 use Rattle.soc_reader.specs.declared.keys.Key.{Key}
 use Rattle.soc_reader.specs.Marks.{bits_of, has_row, is_marked, is_same, with_row}
-use Rattle.soc_reader.proofs.WordFacts.{both_true}
 use Rattle.soc_reader.specs.Grammar.{same_subject, row}
+use Rattle.common_lemmas.proofs.Tests.{both_true}
 
 -- ---- subjects
 

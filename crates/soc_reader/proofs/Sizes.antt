@@ -8,6 +8,7 @@ use Rattle.std.proofs.lemmas.List.{length-map}
 use Rattle.outside.specs.Words.{same_letters}
 use Rattle.soc_reader.specs.declared.keys.Key.{Key}
 use Rattle.soc_reader.specs.Keywords.{keywords, named, sized}
+use Rattle.common_lemmas.proofs.Tests.{same_number}
 
 -- words that are the same but for the case of letters are as long
 as_many : (a b : List ℕ) → same_letters a b ≡ true → length a ≡ length b
@@ -26,9 +27,6 @@ among test (k ∷ ks) w own = by (test (length k.0)) (same_letters w k.0) refl r
 -- the keyword of a word whose length passes the test
 pub named-sized : (test : ℕ → Bool) (w : List ℕ) → test (length w) ≡ true → named keywords w ≡ named (sized test) w
 named-sized test w own = among test keywords w own
-
-same_number : (n : ℕ) → nat_eq n n ≡ true
-same_number n = grind (arith, common_steps)
 
 -- of a word of a length
 pub of_length : (n : ℕ) (w : List ℕ) (o : Option Key) → o ≡ named (sized (nat_eq n)) w → length w ≡ n → o ≡ named keywords w

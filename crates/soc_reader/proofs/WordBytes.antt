@@ -8,7 +8,8 @@ use Rattle.soc_model.specs.SoundChips.{is_name_byte, IsName, is_keyword, keyword
 use Rattle.soc_reader.specs.declared.keys.Key.{Key}
 use Rattle.soc_reader.specs.Keywords.{keywords, named, key_of, is_printable_byte, is_printable, is_free_word, is_lengths_word}
 use Rattle.soc_reader.specs.Grammar.{IsFree}
-use Rattle.soc_reader.proofs.WordFacts.{both_true, not_true}
+use Rattle.std.proofs.lemmas.Bool.{or_parts}
+use Rattle.common_lemmas.proofs.Tests.{both_true, not_true}
 
 -- no byte of the word ends a word
 abbrev pub IsUnbroken : List ℕ → Type 0
@@ -23,11 +24,6 @@ unbroken_before (b ∷ word) line ws own rest = All-cons (λ (w : Word). IsUnbro
 
 ends : (b : ℕ) → is_separator b ≡ false → is_hash b ≡ false → ends_word b ≡ false
 ends b separator hash = rw (hash, separator) refl
-
--- what is left of a text outside its comments has no `#`
-either_false : (p q : Bool) → (p || q) ≡ false → (p ≡ false) × (q ≡ false)
-either_false true q e = cc
-either_false false q e = (refl, e)
 
 clear : (within : Bool) (bs : List ℕ) → All (λ b. is_hash b ≡ false) (uncommented within bs)
 clear within [] = All-nil (λ b. is_hash b ≡ false)
@@ -102,11 +98,11 @@ no_spelling w (k ∷ ks) none = by (same_letters w k.0) none (no_spelling w ks)
 two_more : (p : List ℕ → Bool) (front back : List (List ℕ)) (x y : List ℕ) → list_any p (front ++ back) ≡ false → p x ≡ false → p y ≡ false → list_any p (front ++ x ∷ (back ++ y ∷ [])) ≡ false
 two_more p [] [] x y none first second = rw (first, second) refl
 two_more p [] (b ∷ back) x y none first second =
-    let parts = either_false (p b) (list_any p back) none in
+    let parts = or_parts (p b) (list_any p back) none in
     let rest = two_more p [] back x y parts.1 first second in
     rw (first, parts.0) (rw first at rest)
 two_more p (a ∷ front) back x y none first second =
-    let parts = either_false (p a) (list_any p (front ++ back)) none in
+    let parts = or_parts (p a) (list_any p (front ++ back)) none in
     rw parts.0 (two_more p front back x y parts.1 first second)
 
 -- a word that is no keyword with items, and neither `ScanChainLengths` nor `XY`, is no keyword

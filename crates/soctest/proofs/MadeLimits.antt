@@ -7,9 +7,10 @@ use Rattle.std.proofs.lemmas.Option.{slice_get_within, get_or_from_slice_get}
 use Rattle.soc_model.specs.declared.TestId.{TestId}
 use Rattle.soc_model.specs.Chips.{SocValue, LiveTest, live_tests}
 use Rattle.plan_model.specs.SoundLimits.{HasTest, IsSoundProfile, IsSoundLimits}
-use Rattle.plan_model.proofs.Lists.{contains_at}
 use Rattle.soctest.specs.Procedures.{sample_refusal}
 use Rattle.soctest.specs.Samples.{sample_limits, sample_line}
+use Rattle.common_lemmas.proofs.Tests.{lt_false}
+use Rattle.common_lemmas.proofs.Lists.{contains_at}
 
 weak : (soc : SocValue) → All (λ (l : LiveTest). l.test.power ≤ 99) (live_tests soc) → (i : ℕ) (l : LiveTest) → slice_get (live_tests soc) i ≡ Some l → l.test.power ≤ 300
 weak soc all i l at =
@@ -39,9 +40,6 @@ limits_sound soc all = record {
 
 lt_true : (a b : ℕ) → a < b → nat_lt a b ≡ true
 lt_true a b lt = grind (arith, nat_tests)
-
-lt_false : (a b : ℕ) → b ≤ a → nat_lt a b ≡ false
-lt_false a b le = grind (arith, nat_tests)
 
 not_zero : (n : ℕ) → 1 ≤ n → nat_eq n 0 ≡ false
 not_zero n some = grind (arith, nat_tests)

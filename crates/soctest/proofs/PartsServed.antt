@@ -23,7 +23,6 @@ use Rattle.live_tests.proofs.LiveIds.{ids_differ}
 use Rattle.split_plan.specs.declared.Part.{Part}
 use Rattle.split_plan.specs.Laws.{IsInOnePart, IsPart}
 use Rattle.split_plan.specs.Parts.{split_chip, split_limits, split_parts, split_of}
-use Rattle.split_plan.proofs.Lists.{at_map}
 use Rattle.split_plan.proofs.PartContents.{contents}
 use Rattle.split_plan.proofs.PartLaws.{each_once, are_parts}
 use Rattle.commands.specs.declared.FileKind.TheVariants.{Soc, Limits}
@@ -36,6 +35,7 @@ use Rattle.commands.specs.Readings.{IsRead, SaysLimits}
 use Rattle.soctest.specs.SplitEnds.{HasPatternsOf, IsLoadedAndRead, IsServedOnce, IsTrustworthySplit}
 use Rattle.soctest.specs.SplitText.{passed_as, first_passed, split_refusal, split_text}
 use Rattle.commands.proofs.Trusted.{TrustLaws, both_done, not_refused}
+use Rattle.common_lemmas.proofs.Lists.{map_at}
 
 -- ---- the first limit that is passed
 
@@ -88,12 +88,12 @@ planned_patterns plan l = refl
 
 planned_at : (soc : SocValue) (plan : PlanValue) (i : ℕ) (l : LiveTest) → slice_get (live_tests soc) i ≡ Some l → IsAt (planned soc plan) i (planned_test plan l.place l.core l.test)
 unfolding planned
-planned_at soc plan i l at = at_map (λ (l : LiveTest). planned_test plan l.place l.core l.test) (live_tests soc) i l at
+planned_at soc plan i l at = map_at (λ (l : LiveTest). planned_test plan l.place l.core l.test) (live_tests soc) i l at
 
 -- a live test by its name
 live_is : (soc : SocValue) → IsSoundChip soc → (i j : ℕ) (l k : LiveTest) → slice_get (live_tests soc) i ≡ Some l → slice_get (live_tests soc) j ≡ Some k → id_of l ≡ id_of k → l ≡ k
 live_is soc sound i j l k at there same =
-    let place : i ≡ j = ids_differ soc sound i j (id_of k) (at_map id_of (live_tests soc) i l at ∙ ap Some same) (at_map id_of (live_tests soc) j k there) in
+    let place : i ≡ j = ids_differ soc sound i j (id_of k) (map_at id_of (live_tests soc) i l at ∙ ap Some same) (map_at id_of (live_tests soc) j k there) in
     same_Some l k (sym at ∙ ap (slice_get (live_tests soc)) place ∙ there)
 
 -- capture `k` of a part is pattern `n` of its test

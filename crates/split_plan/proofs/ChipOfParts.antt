@@ -19,19 +19,20 @@ use Rattle.soc_model.specs.Chips.{ModuleValue, SocValue, is_live, numbers, same_
 use Rattle.soc_model.specs.Sizes.{HasSmall, IsWithinSize, IsFirstPassed, all_tests, test_work, work, over, passed, rank_of}
 use Rattle.soc_model.specs.SoundChips.{IsSoundChip, IsSoundModule}
 use Rattle.soc_model.proofs.Limits.{tests-le, powers-le}
-use Rattle.soc_model.proofs.Sums.{IsSmall, IsSmallTest, small_module, module_numbers-small, work_in, work-modules, sum_by-map, all_flat}
+use Rattle.soc_model.proofs.Sums.{IsSmall, IsSmallTest, small_module, module_numbers-small, work_in, work-modules, all_flat}
 use Rattle.plan_model.specs.Plans.{LimitsValue, ProfileValue, greatest, of_first}
 use Rattle.plan_model.specs.SoundLimits.{IsSoundLimits, IsSoundProfile}
 use Rattle.plan_model.proofs.Greatest.{greatest-least}
-use Rattle.plan_model.proofs.Lists.{from_map, from_flat_map}
+use Rattle.plan_model.proofs.Lists.{from_flat_map}
 use Rattle.plan_model.proofs.Sums.{sum_by-filter, item-le-sum_by}
 use Rattle.live_tests.specs.Names.{AllDiffer}
 use Rattle.split_plan.specs.declared.cuts.Cut.{Cut}
 use Rattle.split_plan.specs.Cuts.{part_count, part_power, peak, cut_of, cuts_from, cuts_in, pieces_of, pieces, patterns_of, part_test}
 use Rattle.split_plan.specs.Parts.{split_module, split_chip}
 use Rattle.split_plan.specs.Steps.{count_in, count_all, parts_work, module_work, total_work}
-use Rattle.split_plan.proofs.Lists.{range_at, range_differs, map_twice, at_map, item_of, all_at, sum_left}
+use Rattle.split_plan.proofs.Lists.{range_at, range_differs, sum_left}
 use Rattle.split_plan.proofs.CutTests.{AreParts, are_parts, IsCut, cut_from, piece_from, total, numbers_in}
+use Rattle.common_lemmas.proofs.Lists.{sums_agree, map_twice, map_at, all_at, all_from, from_map, sum_map}
 
 -- ---- how many tests there are
 
@@ -39,15 +40,10 @@ count_here : (m : ModuleValue) (limits : LimitsValue) (most : ℕ) → length (s
 count_here m limits most =
     sym (length-map (map part_test (pieces (cuts_in limits most m))) (λ (t : Test). t.number)) ∙ ap length (numbers_in limits most m) ∙ length-range_with_len 1 (total most m.tests)
 
-sums_agree : {X : Type 0} (f g : X → ℕ) (xs : List X) → ((x : X) → f x ≡ g x) → sum_by f xs ≡ sum_by g xs
-sums_agree f g [] same = refl
-sums_agree f g (x ∷ xs) same =
-    sum_by-cons f x xs ∙ ap (λ n. n + sum_by f xs) (same x) ∙ ap (λ n. g x + n) (sums_agree f g xs same) ∙ sym (sum_by-cons g x xs)
-
 pub counts_are : (limits : LimitsValue) (most : ℕ) (soc : SocValue) → length (all_tests (split_chip limits most soc)) ≡ count_all most soc
 counts_are limits most soc =
     length-flat_map (λ (m : ModuleValue). m.tests) (map (split_module limits most) soc.modules)
-    ∙ sum_by-map (λ (m : ModuleValue). length m.tests) (split_module limits most) soc.modules
+    ∙ sum_map (λ (m : ModuleValue). length m.tests) (split_module limits most) soc.modules
     ∙ sums_agree (λ (m : ModuleValue). length (split_module limits most m).tests) (count_in most) soc.modules (λ m. count_here m limits most)
 
 -- ---- the work
@@ -111,8 +107,8 @@ work_live m c parts live =
     let each : sum_by (λ (k : ℕ). live_work m (part_test (c, k))) (range_with_len 0 c.count) ≡ sum_by (λ (k : ℕ). patterns_of c k * cells m + setup_of m c.test) (range_with_len 0 c.count) =
     agree_at (λ (k : ℕ). live_work m (part_test (c, k))) (λ (k : ℕ). patterns_of c k * cells m + setup_of m c.test) (range_with_len 0 c.count)
     (λ i k at. let r = range_at 0 c.count i k at in let within : k < c.count = omega (arith, r.0, r.1) in here k (live_part c k parts live within)) in
-    sum_by-map (live_work m) part_test (pieces_of c)
-    ∙ sum_by-map (λ (e : Cut × ℕ). live_work m (part_test e)) (λ (k : ℕ). pair c k) (range_with_len 0 c.count)
+    sum_map (live_work m) part_test (pieces_of c)
+    ∙ sum_map (λ (e : Cut × ℕ). live_work m (part_test e)) (λ (k : ℕ). pair c k) (range_with_len 0 c.count)
     ∙ each
     ∙ spread (patterns_of c) (cells m) (setup_of m c.test) (range_with_len 0 c.count)
     ∙ ap (λ n. n * cells m + length (range_with_len 0 c.count) * setup_of m c.test) (all_patterns c parts)
@@ -126,8 +122,8 @@ work_live m c parts live =
 
 work_dead : (m : ModuleValue) (c : Cut) → is_live c.test ≡ false → sum_by (live_work m) (map part_test (pieces_of c)) ≡ 0
 work_dead m c dead =
-    sum_by-map (live_work m) part_test (pieces_of c)
-    ∙ sum_by-map (λ (e : Cut × ℕ). live_work m (part_test e)) (λ (k : ℕ). pair c k) (range_with_len 0 c.count)
+    sum_map (live_work m) part_test (pieces_of c)
+    ∙ sum_map (λ (e : Cut × ℕ). live_work m (part_test e)) (λ (k : ℕ). pair c k) (range_with_len 0 c.count)
     ∙ none (range_with_len 0 c.count)
   where
     pair : Cut → ℕ → Cut × ℕ
@@ -173,7 +169,7 @@ work_of_module limits most some m =
 pub work_is : (limits : LimitsValue) (most : ℕ) → 1 ≤ most → (soc : SocValue) → work (split_chip limits most soc) ≡ total_work most soc
 work_is limits most some soc =
     work-modules (split_chip limits most soc)
-    ∙ sum_by-map work_in (split_module limits most) soc.modules
+    ∙ sum_map work_in (split_module limits most) soc.modules
     ∙ sums_agree (λ (m : ModuleValue). work_in (split_module limits most m)) (module_work most) soc.modules (λ m. work_of_module limits most some m)
 
 -- ---- powers
@@ -190,8 +186,8 @@ peak_within P limits id own here each = go limits.profiles each
 
 steps_within : (soc : SocValue) (limits : LimitsValue) → IsSoundLimits soc limits → (i : ℕ) (p : ProfileValue) → slice_get limits.profiles i ≡ Some p → greatest (map (λ (s : ℕ × ℕ). s.1) p.steps) ≤ 10 ^ 9
 steps_within soc limits sound i p at =
-    let h = item_of (IsSoundProfile soc) limits.profiles i p sound.profiles at in
-    greatest-least (λ (s : ℕ × ℕ). s.1) (10 ^ 9) p.steps (λ k s there. (item_of (λ (s : ℕ × ℕ). (s.0 ≤ 10 ^ 12 - 1) × (s.1 ≤ 10 ^ 9)) p.steps k s h.small there).1)
+    let h = all_at (IsSoundProfile soc) limits.profiles i p sound.profiles at in
+    greatest-least (λ (s : ℕ × ℕ). s.1) (10 ^ 9) p.steps (λ k s there. (all_at (λ (s : ℕ × ℕ). (s.0 ≤ 10 ^ 12 - 1) × (s.1 ≤ 10 ^ 9)) p.steps k s h.small there).1)
 
 power_within : (soc : SocValue) (limits : LimitsValue) → IsSoundLimits soc limits → (id : TestId) (t : Test) (count : ℕ) → t.power ≤ 10 ^ 9 → part_power limits id t count ≤ 10 ^ 9
 power_within soc limits sound id t count own = elim (cases_Bool (nat_le count 1)) [
@@ -223,12 +219,12 @@ record AreSmall (m : ModuleValue) : Type 0 where
 
 are_small : (soc : SocValue) → IsSoundChip soc → (i : ℕ) (m : ModuleValue) → slice_get soc.modules i ≡ Some m → AreSmall m
 are_small soc sound i m at =
-    let h : HasSmall m = item_of HasSmall soc.modules i m sound.small at in
+    let h : HasSmall m = all_at HasSmall soc.modules i m sound.small at in
     record {
       small = small_module m h;
       number = h 0 0 (omega arith);
       level = h 1 0 (omega arith);
-      powers = item_of (λ (m : ModuleValue). All (λ (t : Test). t.power ≤ 10 ^ 9) m.tests) soc.modules i m (all_flat (λ (t : Test). t.power ≤ 10 ^ 9) (λ (m : ModuleValue). m.tests) soc.modules (powers-le soc sound.size)) at;
+      powers = all_at (λ (m : ModuleValue). All (λ (t : Test). t.power ≤ 10 ^ 9) m.tests) soc.modules i m (all_flat (λ (t : Test). t.power ≤ 10 ^ 9) (λ (m : ModuleValue). m.tests) soc.modules (powers-le soc sound.size)) at;
     }
 
 -- what is asked of a part
@@ -240,8 +236,8 @@ fit : (soc : SocValue) (limits : LimitsValue) (most : ℕ) → IsSoundLimits soc
 fit soc limits most bounds m small i t at =
     let p = part_from limits most m i t at in
     let c : Cut = p.cut in
-    let own : c.test.patterns < 10 ^ 12 = item_of (λ (t : Test). t.patterns < 10 ^ 12) m.tests p.is_cut.at c.test small.small.tests p.is_cut.test_at in
-    let power : c.test.power ≤ 10 ^ 9 = item_of (λ (t : Test). t.power ≤ 10 ^ 9) m.tests p.is_cut.at c.test small.powers p.is_cut.test_at in
+    let own : c.test.patterns < 10 ^ 12 = all_at (λ (t : Test). t.patterns < 10 ^ 12) m.tests p.is_cut.at c.test small.small.tests p.is_cut.test_at in
+    let power : c.test.power ≤ 10 ^ 9 = all_at (λ (t : Test). t.power ≤ 10 ^ 9) m.tests p.is_cut.at c.test small.powers p.is_cut.test_at in
     let of_part : (cut_of limits most m.number c.number c.test).power ≤ 10 ^ 9 = power_within soc limits bounds (record { «module» = m.number; test = c.test.number }) c.test (part_count most c.test) power in
     let same : c.power ≡ (cut_of limits most m.number c.number c.test).power = ap (λ (d : Cut). d.power) p.is_cut.is in
     let here : IsFit (part_test (c, p.place)) = record { patterns = omega (arith, own); power = omega (arith, same, of_part) } in
@@ -249,7 +245,7 @@ fit soc limits most bounds m small i t at =
 
 number_small : (limits : LimitsValue) (most : ℕ) (m : ModuleValue) → total most m.tests ≤ 4096 → (i : ℕ) (t : Test) → slice_get (split_module limits most m).tests i ≡ Some t → t.number < 10 ^ 12
 number_small limits most m few i t at =
-    let number : slice_get (map (λ (t : Test). t.number) (split_module limits most m).tests) i ≡ Some t.number = at_map (λ (t : Test). t.number) (split_module limits most m).tests i t at in
+    let number : slice_get (map (λ (t : Test). t.number) (split_module limits most m).tests) i ≡ Some t.number = map_at (λ (t : Test). t.number) (split_module limits most m).tests i t at in
     let r = range_at 1 (total most m.tests) i t.number (ap (λ (ns : List ℕ). slice_get ns i) (sym (numbers_in limits most m)) ∙ number) in
     omega (arith, r.0, r.1, few)
 
@@ -266,8 +262,8 @@ small_parts soc limits most sound bounds few i m at =
     let f = fit soc limits most bounds m small k t there in
     let power = f.power in
     record { number = number_small limits most m here k t there; patterns = f.patterns; power = omega (arith, power) } in
-    let each : All IsSmallTest (split_module limits most m).tests = all_at IsSmallTest (split_module limits most m).tests tests in
-    let patterns : All (λ (t : Test). t.patterns < 10 ^ 12) (split_module limits most m).tests = all_at (λ (t : Test). t.patterns < 10 ^ 12) (split_module limits most m).tests (λ k t there. (tests k t there).patterns) in
+    let each : All IsSmallTest (split_module limits most m).tests = all_from IsSmallTest (split_module limits most m).tests tests in
+    let patterns : All (λ (t : Test). t.patterns < 10 ^ 12) (split_module limits most m).tests = all_from (λ (t : Test). t.patterns < 10 ^ 12) (split_module limits most m).tests (λ k t there. (tests k t there).patterns) in
     module_numbers-small (split_module limits most m)
     (record { inputs = small.small.inputs; outputs = small.small.outputs; bidirs = small.small.bidirs; setup = small.small.setup; chains = small.small.chains; tests = patterns })
     small.number small.level each
@@ -342,8 +338,8 @@ split_sound soc limits most sound bounds size = record {
   keyed = sound.keyed ∙ sym (numbers_stay limits most soc);
   modules_differ = subst (λ (ns : List ℕ). AllDiffer ns) (sym (numbers_stay limits most soc)) sound.modules_differ;
   name = sound.name;
-  modules = All-map IsSoundModule (split_module limits most) soc.modules (all_at (λ (m : ModuleValue). IsSoundModule (split_module limits most m)) soc.modules each);
-  small = All-map HasSmall (split_module limits most) soc.modules (all_at (λ (m : ModuleValue). HasSmall (split_module limits most m)) soc.modules (small_parts soc limits most sound bounds few));
+  modules = All-map IsSoundModule (split_module limits most) soc.modules (all_from (λ (m : ModuleValue). IsSoundModule (split_module limits most m)) soc.modules each);
+  small = All-map HasSmall (split_module limits most) soc.modules (all_from (λ (m : ModuleValue). HasSmall (split_module limits most m)) soc.modules (small_parts soc limits most sound bounds few));
   size = size;
 }
   where
@@ -352,7 +348,7 @@ split_sound soc limits most sound bounds size = record {
 
     each : (i : ℕ) (m : ModuleValue) → slice_get soc.modules i ≡ Some m → IsSoundModule (split_module limits most m)
     each i m at =
-        let own = item_of IsSoundModule soc.modules i m sound.modules at in
+        let own = all_at IsSoundModule soc.modules i m sound.modules at in
         record {
           name = own.name;
           no_keyword = own.no_keyword;

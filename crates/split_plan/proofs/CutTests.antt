@@ -17,12 +17,13 @@ use Rattle.soc_model.specs.Chips.{ModuleValue, SocValue, is_live}
 use Rattle.soc_model.specs.Modes.{is_tam}
 use Rattle.soc_model.specs.SoundChips.{IsSoundChip, IsSoundModule}
 use Rattle.plan_model.specs.Plans.{LimitsValue}
-use Rattle.plan_model.proofs.Lists.{from_append, from_map, from_flat_map, in_flat_map}
+use Rattle.plan_model.proofs.Lists.{from_append, from_flat_map, in_flat_map}
 use Rattle.live_tests.specs.Names.{AllDiffer}
 use Rattle.split_plan.specs.declared.cuts.Cut.{Cut}
 use Rattle.split_plan.specs.Cuts.{part_count, part_size, cut_of, cuts_from, cuts_in, all_cuts, pieces_of, pieces, part_id, part_test}
 use Rattle.split_plan.specs.Steps.{wholes}
-use Rattle.split_plan.proofs.Lists.{range_at, at_range, range_differs, range_moved, range_joined, differ_append, differ_tail, differ_map, map_twice, at_map, item_of}
+use Rattle.split_plan.proofs.Lists.{range_at, at_range, range_differs, range_moved, range_joined, differ_append, differ_tail, differ_map}
+use Rattle.common_lemmas.proofs.Lists.{map_twice, map_at, all_at, from_map}
 
 -- ---- how many parts a test has
 
@@ -149,7 +150,7 @@ pub piece_to : (cuts : List Cut) (at : ℕ) (c : Cut) (k : ℕ) → slice_get cu
 piece_to cuts at c k there within =
     let here : slice_get (range_with_len 0 c.count) k ≡ Some (0 + k) = at_range 0 c.count k within in
     let zero' : 0 + k ≡ k = omega arith in
-    let r : slice_get (pieces_of c) k ≡ Some (pair c k) = at_map (λ (k : ℕ). pair c k) (range_with_len 0 c.count) k k (here ∙ ap Some zero') in
+    let r : slice_get (pieces_of c) k ≡ Some (pair c k) = map_at (λ (k : ℕ). pair c k) (range_with_len 0 c.count) k k (here ∙ ap Some zero') in
     in_flat_map pieces_of cuts at k c (pair c k) there r
   where
     pair : Cut → ℕ → Cut × ℕ
@@ -206,7 +207,7 @@ name_from f ms i id at =
     let r = from_flat_map (λ (m : ModuleValue). map (in_module m.number) (f m)) ms i id at in
     let b = from_map (in_module (r.1).number) (f r.1) r.2 id r.4 in
     let same : (r.1).number ≡ id.module = ap (λ (x : TestId). x.module) b.2 in
-    (r.0, at_map (λ (m : ModuleValue). m.number) ms r.0 r.1 r.3 ∙ ap Some same)
+    (r.0, map_at (λ (m : ModuleValue). m.number) ms r.0 r.1 r.3 ∙ ap Some same)
 
 pub names_differ : (f : ModuleValue → List ℕ) (ms : List ModuleValue) → AllDiffer (map (λ (m : ModuleValue). m.number) ms) → ((i : ℕ) (m : ModuleValue) → slice_get ms i ≡ Some m → AllDiffer (f m)) → AllDiffer (names_of f ms)
 names_differ f [] differ each = λ p q id at there. absurd cc
@@ -240,12 +241,12 @@ wholes_are limits most (m ∷ ms) =
 pub wholes_differ : (limits : LimitsValue) (most : ℕ) (soc : SocValue) → IsSoundChip soc → AllDiffer (wholes (all_cuts limits most soc))
 wholes_differ limits most soc sound =
     subst (λ (l : List TestId). AllDiffer l) (sym (wholes_are limits most soc.modules))
-    (names_differ (λ (m : ModuleValue). map (λ (t : Test). t.number) m.tests) soc.modules sound.modules_differ (λ i m at. (item_of IsSoundModule soc.modules i m sound.modules at).tests_differ))
+    (names_differ (λ (m : ModuleValue). map (λ (t : Test). t.number) m.tests) soc.modules sound.modules_differ (λ i m at. (all_at IsSoundModule soc.modules i m sound.modules at).tests_differ))
 
 -- two cut tests of one name stand at one place
 pub cut_unique : (limits : LimitsValue) (most : ℕ) (soc : SocValue) → IsSoundChip soc → (p q : ℕ) (c d : Cut) → slice_get (all_cuts limits most soc) p ≡ Some c → slice_get (all_cuts limits most soc) q ≡ Some d → c.whole ≡ d.whole → p ≡ q
 cut_unique limits most soc sound p q c d at there same =
-    wholes_differ limits most soc sound p q d.whole (at_map (λ (c : Cut). c.whole) (all_cuts limits most soc) p c at ∙ ap Some same) (at_map (λ (c : Cut). c.whole) (all_cuts limits most soc) q d there)
+    wholes_differ limits most soc sound p q d.whole (map_at (λ (c : Cut). c.whole) (all_cuts limits most soc) p c at ∙ ap Some same) (map_at (λ (c : Cut). c.whole) (all_cuts limits most soc) q d there)
 
 -- ---- the numbers of parts
 
@@ -320,8 +321,8 @@ piece_unique limits most soc sound e f is_e is_f same =
     let cuts : List Cut = all_cuts limits most soc in
     let a = piece_to (all_cuts limits most soc) is_e.at e.0 e.1 is_e.there is_e.within in
     let b = piece_to (all_cuts limits most soc) is_f.at f.0 f.1 is_f.there is_f.within in
-    let at : slice_get (map name_of (pieces (all_cuts limits most soc))) a.0 ≡ Some (name_of e) = at_map name_of (pieces (all_cuts limits most soc)) a.0 (e.0, e.1) a.1 in
-    let there : slice_get (map name_of (pieces (all_cuts limits most soc))) b.0 ≡ Some (name_of f) = at_map name_of (pieces (all_cuts limits most soc)) b.0 (f.0, f.1) b.1 in
+    let at : slice_get (map name_of (pieces (all_cuts limits most soc))) a.0 ≡ Some (name_of e) = map_at name_of (pieces (all_cuts limits most soc)) a.0 (e.0, e.1) a.1 in
+    let there : slice_get (map name_of (pieces (all_cuts limits most soc))) b.0 ≡ Some (name_of f) = map_at name_of (pieces (all_cuts limits most soc)) b.0 (f.0, f.1) b.1 in
     let place : a.0 ≡ b.0 = ids_differ limits most soc sound a.0 b.0 (name_of f) (at ∙ ap Some same) there in
     let one : Some e ≡ Some f = sym a.1 ∙ ap (slice_get (pieces (all_cuts limits most soc))) place ∙ b.1 in
     same_Some e f one

@@ -7,25 +7,11 @@ use Rattle.std.proofs.lemmas.List.Elements.{All-contains}
 use Rattle.std.proofs.lemmas.List.FromFn.{length-range_with_len, get_or-range_with_len}
 use Rattle.std.proofs.lemmas.List.Sums.{sum_by-cons}
 use Rattle.std.proofs.lemmas.Option.{slice_get-get_or}
-use Rattle.plan_model.proofs.Lists.{from_append, from_map, at_contains}
+use Rattle.plan_model.proofs.Lists.{from_append, at_contains}
 use Rattle.live_tests.specs.Names.{AllDiffer}
+use Rattle.common_lemmas.proofs.Lists.{from_map}
 
 -- ---- items
-
-pub all_at : {X : Type 0} (P : X → Type 0) (xs : List X) → ((i : ℕ) (x : X) → slice_get xs i ≡ Some x → P x) → All P xs
-all_at P xs h = λ k d lt. h k (get_or xs k d) (slice_get-get_or xs k d lt)
-
-pub item_of : {X : Type 0} (P : X → Type 0) (xs : List X) (i : ℕ) (x : X) → All P xs → slice_get xs i ≡ Some x → P x
-item_of P xs i x all at = All-contains P xs x all (at_contains xs i x at)
-
-pub map_twice : {X Y Z : Type 0} (f : Y → Z) (g : X → Y) (xs : List X) → map f (map g xs) ≡ map (λ x. f (g x)) xs
-map_twice f g [] = refl
-map_twice f g (x ∷ xs) = ap (λ ys. f (g x) ∷ ys) (map_twice f g xs)
-
-pub at_map : {X Y : Type 0} (f : X → Y) (xs : List X) (i : ℕ) (x : X) → slice_get xs i ≡ Some x → slice_get (map f xs) i ≡ Some (f x)
-at_map f [] i x at = absurd cc
-at_map f (y ∷ xs) zero x at = let same : y ≡ x = cc in ap (λ z. Some (f z)) same
-at_map f (y ∷ xs) (suc i) x at = at_map f xs i x at
 
 -- ---- ranges
 
@@ -105,13 +91,6 @@ find_is p (y ∷ xs) zero x at passes only =
 find_is p (y ∷ xs) (suc i) x at passes only = elim (cases_Bool (p y)) [
   | inl yes' ↦ let same : 0 ≡ suc i = only 0 y refl yes' in absurd (omega (arith, same))
   | inr no' ↦ rw no' (find_is p xs i x at passes (λ j z there ok. let same : suc j ≡ suc i = only (suc j) z there ok in omega (arith, same)))
-]
-
-pub find_at : {X : Type 0} (p : X → Bool) (xs : List X) (x : X) → find p xs ≡ Some x → (i : ℕ) × (slice_get xs i ≡ Some x) × (p x ≡ true)
-find_at p [] x e = absurd cc
-find_at p (y ∷ xs) x e = elim (cases_Bool (p y)) [
-  | inl yes' ↦ let e' = rw yes' at e in let same : y ≡ x = cc in (0, e', subst (λ z. p z ≡ true) same yes')
-  | inr no' ↦ let e' = rw no' at e in let r = find_at p xs x e' in (suc r.0, r.1, r.2)
 ]
 
 pub find_none : {X : Type 0} (p : X → Bool) (xs : List X) → ((i : ℕ) (x : X) → slice_get xs i ≡ Some x → p x ≡ false) → find p xs ≡ None

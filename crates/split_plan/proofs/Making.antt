@@ -19,14 +19,14 @@ use Rattle.plan_model.specs.declared.Profile.{Profile}
 use Rattle.plan_model.specs.Plans.{LimitsValue, ProfileValue, greatest, of_first}
 use Rattle.plan_model.specs.Views.{profile_value}
 use Rattle.plan_model.proofs.Finding.{none_passes}
-use Rattle.plan_model.proofs.Lists.{any_at, from_map, in_append_left}
 use Rattle.live_tests.specs.Names.{AllDiffer as Differ}
 use Rattle.split_plan.specs.declared.cuts.Cut.{Cut}
 use Rattle.split_plan.specs.Cuts.{part_count, cut_of, cuts_from, cuts_in, all_cuts, cut_named, peak, pieces_of, pieces, part_id}
 use Rattle.split_plan.specs.Parts.{split_module, split_chip}
 use Rattle.split_plan.specs.Steps.{HasRoom, wholes, profiled}
-use Rattle.split_plan.proofs.Lists.{at_map, find_none}
+use Rattle.split_plan.proofs.Lists.{find_none}
 use Rattle.split_plan.proofs.CutTests.{are_parts}
+use Rattle.common_lemmas.proofs.Lists.{map_at, any_at, from_map, at_left}
 
 -- ---- lists that grow
 
@@ -40,14 +40,6 @@ map_more f xs i d old new less so_far added =
     added ∙ ap (λ l. l ++ f (get_or xs i d) ∷ []) so_far
     ∙ sym (map-append f (take i xs) (get_or xs i d ∷ []))
     ∙ ap (map f) (sym (take_more xs i d less))
-
--- one item more, of each of which a list is added
-pub flat_more : {X Y : Type 0} (f : X → List Y) (xs : List X) (i : ℕ) (d : X) (start old new : List Y) → i < length xs → old ≡ start ++ flat_map f (take i xs) → new ≡ old ++ f (get_or xs i d) → new ≡ start ++ flat_map f (take (i + 1) xs)
-flat_more f xs i d start old new less so_far added =
-    added ∙ ap (λ l. l ++ f (get_or xs i d)) so_far ∙ append_assoc start (flat_map f (take i xs)) (f (get_or xs i d))
-    ∙ ap (λ l. start ++ (flat_map f (take i xs) ++ l)) (sym (append-nil (f (get_or xs i d))))
-    ∙ ap (λ l. start ++ l) (sym (flat_map-append f (take i xs) (get_or xs i d ∷ [])))
-    ∙ ap (λ l. start ++ flat_map f l) (sym (take_more xs i d less))
 
 -- the parts of one test more
 pub pieces_more : {Y : Type 0} (f : Cut × ℕ → Y) (cs : List Cut) (i : ℕ) (d : Cut) (old new : List Y) → i < length cs → old ≡ map f (pieces (take i cs)) → new ≡ old ++ map f (pieces_of (get_or cs i d)) → new ≡ map f (pieces (take (i + 1) cs))
@@ -123,7 +115,7 @@ next_is_new limits most soc made cuts m rest sound making = by (list_any (nat_eq
     by true e =
         let a = any_at (nat_eq m.number) made.keys e in
         let same : a.1 ≡ m.number = grind (arith, nat_tests, a.3) in
-        let first : slice_get soc.keys a.0 ≡ Some m.number = ap (λ (l : List ℕ). slice_get l a.0) (sym making.keys) ∙ in_append_left made.keys (m.number ∷ map (λ (m : ModuleValue). m.number) rest) a.0 m.number (a.2 ∙ ap Some same) in
+        let first : slice_get soc.keys a.0 ≡ Some m.number = ap (λ (l : List ℕ). slice_get l a.0) (sym making.keys) ∙ at_left made.keys (m.number ∷ map (λ (m : ModuleValue). m.number) rest) a.0 m.number (a.2 ∙ ap Some same) in
         let second : slice_get soc.keys (length made.keys) ≡ Some m.number = ap (λ (l : List ℕ). slice_get l (length made.keys)) (sym making.keys) ∙ behind made.keys m.number (map (λ (m : ModuleValue). m.number) rest) in
         let differ : AllDiffer soc.keys = subst (λ (ns : List ℕ). AllDiffer ns) (sym sound.keyed) sound.modules_differ in
         let place : a.0 ≡ length made.keys = differ a.0 (length made.keys) m.number first second in
@@ -186,7 +178,7 @@ named_at cs id k d found =
     seen j less = ap (same_test id) (sym (get_or-map (λ (c : Cut). c.whole) cs j d d.whole less))
 
 pub named_nowhere : (cs : List Cut) (id : TestId) → position (same_test id) (wholes cs) ≡ None → cut_named cs id ≡ None
-named_nowhere cs id none = find_none (λ (c : Cut). same_test id c.whole) cs (λ i c at. none_passes (same_test id) (wholes cs) none i c.whole (at_map (λ (c : Cut). c.whole) cs i c at))
+named_nowhere cs id none = find_none (λ (c : Cut). same_test id c.whole) cs (λ i c at. none_passes (same_test id) (wholes cs) none i c.whole (map_at (λ (c : Cut). c.whole) cs i c at))
 
 -- the first profile of a test, and none
 first_profile : (id : TestId) (own : ℕ) (ps : List ProfileValue) (k : ℕ) (d : ProfileValue) → k < length ps → same_test id (get_or ps k d).test ≡ true → ((j : ℕ) → j < k → same_test id (get_or ps j d).test ≡ false) →
@@ -209,7 +201,7 @@ peak_at limits id own k d found =
     seen j less = ap (same_test id) (sym (get_or-map (λ (p : ProfileValue). p.test) limits.profiles j d d.test less))
 
 pub peak_own : (limits : LimitsValue) (id : TestId) (own : ℕ) → position (same_test id) (profiled limits.profiles) ≡ None → peak limits id own ≡ own
-peak_own limits id own none = go limits.profiles (λ i p at. none_passes (same_test id) (profiled limits.profiles) none i p.test (at_map (λ (p : ProfileValue). p.test) limits.profiles i p at))
+peak_own limits id own none = go limits.profiles (λ i p at. none_passes (same_test id) (profiled limits.profiles) none i p.test (map_at (λ (p : ProfileValue). p.test) limits.profiles i p at))
   where
     go : (ps : List ProfileValue) → ((i : ℕ) (p : ProfileValue) → slice_get ps i ≡ Some p → same_test id p.test ≡ false) → of_first (λ (p : ProfileValue). same_test id p.test) (λ p. greatest (map (λ (s : ℕ × ℕ). s.1) p.steps)) own ps ≡ own
     go [] none = refl

@@ -7,7 +7,6 @@ use Rattle.soc_model.specs.SoundChips.{IsSoundChip}
 use Rattle.plan_model.specs.Cells.{Cell}
 use Rattle.plan_model.specs.Plans.{LimitsValue, of_first}
 use Rattle.plan_model.proofs.CertificatesAreBounds.{same_test_is, is_same_test}
-use Rattle.plan_model.proofs.Lists.{from_map}
 use Rattle.plan_model.proofs.PlannedTests.{of_first_is}
 use Rattle.split_plan.specs.declared.Part.{Part}
 use Rattle.split_plan.specs.declared.cuts.Cut.{Cut}
@@ -16,6 +15,7 @@ use Rattle.split_plan.specs.Laws.{EachContentInParts}
 use Rattle.split_plan.specs.Parts.{split_parts}
 use Rattle.split_plan.proofs.CutTests.{IsPiece, piece_from, piece_unique, name_of}
 use Rattle.split_plan.proofs.PartLaws.{live_from_all}
+use Rattle.common_lemmas.proofs.Lists.{from_map}
 
 -- a piece of a live test is one of all pieces
 live_is_piece : (cuts : List Cut) (i : ℕ) (e : Cut × ℕ) → slice_get (pieces (live_cuts cuts)) i ≡ Some e → IsPiece cuts e

@@ -16,8 +16,7 @@ use Rattle.soc_model.specs.Chips.{ModuleValue, SocValue, LiveTest, is_live, id_o
 use Rattle.soc_model.specs.SoundChips.{IsSoundChip}
 use Rattle.soc_model.proofs.Places.{IsKeyed-from_sound, module-unique}
 use Rattle.plan_model.specs.Plans.{LimitsValue}
-use Rattle.plan_model.proofs.Finding.{in_filter}
-use Rattle.plan_model.proofs.Lists.{from_map, from_filter, in_flat_map}
+use Rattle.plan_model.proofs.Lists.{from_filter, in_flat_map}
 use Rattle.plan_model.proofs.PlannedTests.{IsLive, live_at}
 use Rattle.live_tests.specs.Names.{AllDiffer}
 use Rattle.split_plan.specs.declared.Part.{Part}
@@ -25,10 +24,11 @@ use Rattle.split_plan.specs.declared.cuts.Cut.{Cut}
 use Rattle.split_plan.specs.Cuts.{part_count, cut_of, cuts_from, cuts_in, all_cuts, live_cuts, pieces_of, pieces, patterns_of, part_test, part_at}
 use Rattle.split_plan.specs.Laws.{HasPattern, EachPatternOnce, IsPart, AreParts}
 use Rattle.split_plan.specs.Parts.{split_module, split_chip, split_parts}
-use Rattle.split_plan.proofs.Lists.{at_map, differ_tail, range_at}
+use Rattle.split_plan.proofs.Lists.{differ_tail, range_at}
 use Rattle.split_plan.proofs.CutTests.{AreParts as DoLie, cut_from, IsCutOf, cut_of_chip, parts_of_cut, piece_from, piece_to, pieces_ordered, in_module, name_of, wholes_differ}
 use Rattle.split_plan.proofs.ChipOfParts.{live_part, dead_part}
 use Rattle.split_plan.proofs.PartsAsTests.{live_cut, live_whole, whole_is, lie}
+use Rattle.common_lemmas.proofs.Lists.{map_at, from_map, in_filter}
 
 -- ---- live tests that are cut
 
@@ -47,7 +47,7 @@ differ_filter {X} {Y} f p (x ∷ xs) differ = elim (cases_Bool (p x)) [
     new q at =
         let a = from_map f (filter p xs) q (f x) at in
         let b = from_filter p xs q a.0 a.1 in
-        let there : slice_get (map f xs) b.0 ≡ Some (f x) = at_map f xs b.0 a.0 b.1 ∙ ap Some a.2 in
+        let there : slice_get (map f xs) b.0 ≡ Some (f x) = map_at f xs b.0 a.0 b.1 ∙ ap Some a.2 in
         let same : 0 ≡ suc b.0 = differ 0 (suc b.0) (f x) refl there in
         absurd (omega (arith, same))
 
@@ -61,8 +61,8 @@ differ_filter {X} {Y} f p (x ∷ xs) differ = elim (cases_Bool (p x)) [
 live_unique : (limits : LimitsValue) (most : ℕ) (soc : SocValue) → IsSoundChip soc → (i j : ℕ) (c d : Cut) → slice_get (live_cuts (all_cuts limits most soc)) i ≡ Some c → slice_get (live_cuts (all_cuts limits most soc)) j ≡ Some d → c.whole ≡ d.whole → i ≡ j
 live_unique limits most soc sound i j c d at there same =
     differ_filter (λ (c : Cut). c.whole) (λ (c : Cut). is_live c.test) (all_cuts limits most soc) (wholes_differ limits most soc sound) i j d.whole
-    (at_map (λ (c : Cut). c.whole) (live_cuts (all_cuts limits most soc)) i c at ∙ ap Some same)
-    (at_map (λ (c : Cut). c.whole) (live_cuts (all_cuts limits most soc)) j d there)
+    (map_at (λ (c : Cut). c.whole) (live_cuts (all_cuts limits most soc)) i c at ∙ ap Some same)
+    (map_at (λ (c : Cut). c.whole) (live_cuts (all_cuts limits most soc)) j d there)
 
 -- how its parts lie
 live_lie : (limits : LimitsValue) (most : ℕ) (soc : SocValue) → 1 ≤ most → (i : ℕ) (c : Cut) → slice_get (live_cuts (all_cuts limits most soc)) i ≡ Some c → DoLie c.test.patterns c.count c.size
@@ -140,7 +140,7 @@ each_once limits most soc some sound i l n at one most_n =
     let covers = parts.covers in
     let k = part_of (c.0).size (c.0).test.patterns n (c.0).count one (omega (arith, covers, patterns, most_n)) in
     let e = piece_to (live_cuts (all_cuts limits most soc)) c.1 c.0 k.0 c.2 k.1 in
-    let there : slice_get (split_parts limits most soc) e.0 ≡ Some (part_at (c.0, k.0)) = at_map part_at (pieces (live_cuts (all_cuts limits most soc))) e.0 (c.0, k.0) e.1 in
+    let there : slice_get (split_parts limits most soc) e.0 ≡ Some (part_at (c.0, k.0)) = map_at part_at (pieces (live_cuts (all_cuts limits most soc))) e.0 (c.0, k.0) e.1 in
     let low : k.0 * (c.0).size + 1 ≤ n = omega (arith, k.2) in
     let high : n ≤ k.0 * (c.0).size + patterns_of (c.0) k.0 = ends (c.0).size (c.0).test.patterns (k.0 * (c.0).size) n k.2 k.3 (omega (arith, patterns, most_n)) in
     let has : HasPattern (id_of l) n (part_at (c.0, k.0)) = (c.4, low, high) in
@@ -273,9 +273,9 @@ record IsTestOf (limits : LimitsValue) (most : ℕ) (soc : SocValue) (i : ℕ) (
 
 test_of : (limits : LimitsValue) (most : ℕ) (soc : SocValue) → 1 ≤ most → (i : ℕ) (e : Cut × ℕ) → slice_get (pieces (live_cuts (all_cuts limits most soc))) i ≡ Some e → IsTestOf limits most soc i e
 test_of limits most soc some i e at =
-    let t : slice_get (map (λ (l : LiveTest). l.test) (live_tests (split_chip limits most soc))) i ≡ Some (part_test e) = ap (λ (l : List Test). slice_get l i) (tests_are limits most soc some) ∙ at_map part_test (pieces (live_cuts (all_cuts limits most soc))) i e at in
+    let t : slice_get (map (λ (l : LiveTest). l.test) (live_tests (split_chip limits most soc))) i ≡ Some (part_test e) = ap (λ (l : List Test). slice_get l i) (tests_are limits most soc some) ∙ map_at part_test (pieces (live_cuts (all_cuts limits most soc))) i e at in
     let l = from_map (λ (l : LiveTest). l.test) (live_tests (split_chip limits most soc)) i (part_test e) t in
-    let name : Some (id_of l.0) ≡ Some (name_of e) = sym (at_map id_of (live_tests (split_chip limits most soc)) i l.0 l.1) ∙ ap (λ (l : List TestId). slice_get l i) (names_are limits most soc some) ∙ at_map name_of (pieces (live_cuts (all_cuts limits most soc))) i e at in
+    let name : Some (id_of l.0) ≡ Some (name_of e) = sym (map_at id_of (live_tests (split_chip limits most soc)) i l.0 l.1) ∙ ap (λ (l : List TestId). slice_get l i) (names_are limits most soc some) ∙ map_at name_of (pieces (live_cuts (all_cuts limits most soc))) i e at in
     record { part = l.0; part_at = l.1; test_is = l.2; id_is = same_Some (id_of l.0) (name_of e) name }
 
 many : (limits : LimitsValue) (most : ℕ) (soc : SocValue) → 1 ≤ most → length (split_parts limits most soc) ≡ length (live_tests (split_chip limits most soc))

@@ -12,15 +12,16 @@ use Rattle.soc_model.proofs.Places.{IsKeyed, IsKeyed-from_sound, place-from_modu
 use Rattle.plan_model.specs.Plans.{LimitsValue}
 use Rattle.plan_model.specs.SoundLimits.{HasTest}
 use Rattle.plan_model.proofs.CertificatesAreBounds.{same_test_is, is_same_test}
-use Rattle.plan_model.proofs.Finding.{none_passes, in_filter}
-use Rattle.plan_model.proofs.Lists.{from_map, from_filter, in_append_left, in_append_right, in_flat_map}
+use Rattle.plan_model.proofs.Finding.{none_passes}
+use Rattle.plan_model.proofs.Lists.{from_filter, in_append_right, in_flat_map}
 use Rattle.plan_model.proofs.PlannedTests.{IsLive, live_at}
 use Rattle.split_plan.specs.declared.cuts.Cut.{Cut}
 use Rattle.split_plan.specs.Cuts.{cuts_in, all_cuts, cut_named, pieces, part_test}
 use Rattle.split_plan.specs.Parts.{split_module, split_chip}
-use Rattle.split_plan.proofs.Lists.{at_map, find_is, find_at}
+use Rattle.split_plan.proofs.Lists.{find_is}
 use Rattle.split_plan.proofs.CutTests.{AreParts, cut_from, IsCutOf, cut_of_chip, parts_of_cut, IsPiece, piece_from, piece_to, in_module, name_of, cut_unique}
 use Rattle.split_plan.proofs.ChipOfParts.{dead_part}
+use Rattle.common_lemmas.proofs.Lists.{map_at, found_at, from_map, at_left, in_filter}
 
 -- ---- tests of a chip
 
@@ -45,9 +46,9 @@ live_to [] base up q m t at there live = absurd cc
 live_to (n ∷ ms) base zero q m t at there live =
     let same : n ≡ m = cc in
     let f = in_filter is_live m.tests q t there live in
-    let here : slice_get (live_of base m) f.0 ≡ Some (the_live base m t) = at_map (λ (t : Test). the_live base m t) (filter is_live m.tests) f.0 t f.1 in
+    let here : slice_get (live_of base m) f.0 ≡ Some (the_live base m t) = map_at (λ (t : Test). the_live base m t) (filter is_live m.tests) f.0 t f.1 in
     let here' : slice_get (live_of base n) f.0 ≡ Some (the_live base m t) = ap (λ (n : ModuleValue). slice_get (live_of base n) f.0) same ∙ here in
-    (f.0, the_live base m t, in_append_left (live_of base n) (live_from (base + 1) ms) f.0 (the_live base m t) here', omega arith, refl, refl)
+    (f.0, the_live base m t, at_left (live_of base n) (live_from (base + 1) ms) f.0 (the_live base m t) here', omega arith, refl, refl)
   where
     the_live : ℕ → ModuleValue → Test → LiveTest
     the_live place core test = record { place = place; core = core; test = test }
@@ -76,13 +77,13 @@ live_whole limits most soc c o l core test =
 pub part_stands : (limits : LimitsValue) (most : ℕ) (soc : SocValue) (e : Cut × ℕ) (o : IsCutOf limits most soc e.0) → e.1 < e.0.count → (n : ℕ) × (slice_get (split_module limits most o.core).tests n ≡ Some (part_test e))
 part_stands limits most soc e o within =
     let r = piece_to (cuts_in limits most o.core) o.nth e.0 e.1 o.nth_is within in
-    (r.0, at_map part_test (pieces (cuts_in limits most o.core)) r.0 (e.0, e.1) r.1)
+    (r.0, map_at part_test (pieces (cuts_in limits most o.core)) r.0 (e.0, e.1) r.1)
 
 pub has_part : (limits : LimitsValue) (most : ℕ) (soc : SocValue) → IsSoundChip (split_chip limits most soc) → (e : Cut × ℕ) → IsPiece (all_cuts limits most soc) e → HasTest (split_chip limits most soc) (name_of e)
 has_part limits most soc sound e piece =
     let o = cut_of_chip limits most soc piece.at e.0 piece.there in
     let t = part_stands limits most soc e o piece.within in
-    let m = at_map (split_module limits most) soc.modules o.place o.core o.core_at in
+    let m = map_at (split_module limits most) soc.modules o.place o.core o.core_at in
     let has : HasTest (split_chip limits most soc) (in_module o.core.number (e.0.number + e.1)) = has_test (split_chip limits most soc) (IsKeyed-from_sound sound) o.place t.0 (split_module limits most o.core) (part_test e) m t.1 in
     subst (λ (h : ℕ). HasTest (split_chip limits most soc) (in_module h (e.0.number + e.1))) (sym (ap (λ (i : TestId). i.module) (whole_is limits most soc e.0 o))) has
 
@@ -148,7 +149,7 @@ named limits most soc sound i c at =
 
 pub from_named : (cuts : List Cut) (id : TestId) (c : Cut) → cut_named cuts id ≡ Some c → (i : ℕ) × (slice_get cuts i ≡ Some c) × (c.whole ≡ id)
 from_named cuts id c e =
-    let r = find_at (λ (c : Cut). same_test id c.whole) cuts c e in
+    let r = found_at (λ (c : Cut). same_test id c.whole) cuts c e in
     (r.0, r.1, sym (same_test_is id c.whole r.2))
 
 -- how the parts of a cut test of the chip lie

@@ -14,14 +14,15 @@ use Rattle.plan_model.specs.Plans.{LimitsValue, of_first}
 use Rattle.plan_model.specs.Rules.{live_ids}
 use Rattle.plan_model.specs.SoundLimits.{HasTest, IsAcyclic}
 use Rattle.plan_model.proofs.CertificatesAreBounds.{same_test_is, is_same_test}
-use Rattle.plan_model.proofs.Lists.{from_append, from_map, from_flat_map, contains_at, at_contains}
+use Rattle.plan_model.proofs.Lists.{from_append, from_flat_map, at_contains}
 use Rattle.plan_model.proofs.PlannedTests.{of_first_is}
 use Rattle.split_plan.specs.declared.cuts.Cut.{Cut}
 use Rattle.split_plan.specs.Cuts.{all_cuts, cut_named, pieces, part_id}
 use Rattle.split_plan.specs.Parts.{split_chip, split_limits, chain, joined}
-use Rattle.split_plan.proofs.Lists.{range_at, at_map, item_of}
+use Rattle.split_plan.proofs.Lists.{range_at}
 use Rattle.split_plan.proofs.CutTests.{cut_of_chip, IsPiece, piece_from, piece_to, name_of, piece_unique}
 use Rattle.split_plan.proofs.PartsAsTests.{has_part, live_cut, live_whole, from_named, lie, piece_at}
+use Rattle.common_lemmas.proofs.Lists.{map_at, all_at, from_map, contains_at}
 
 -- each part before the next
 pub record IsChained (limits : LimitsValue) (most : ℕ) (soc : SocValue) (p : TestId × TestId) : Type 0 where
@@ -122,8 +123,8 @@ rank_is limits most soc sound rank e piece =
 patterns_small : (limits : LimitsValue) (most : ℕ) (soc : SocValue) → IsSoundChip soc → (i : ℕ) (c : Cut) → slice_get (all_cuts limits most soc) i ≡ Some c → c.test.patterns < 10 ^ 12
 patterns_small limits most soc sound i c at =
     let o = cut_of_chip limits most soc i c at in
-    let small = small_module o.core (item_of HasSmall soc.modules o.place o.core sound.small o.core_at) in
-    item_of (λ (t : Test). t.patterns < 10 ^ 12) o.core.tests o.cut.at c.test small.tests o.cut.test_at
+    let small = small_module o.core (all_at HasSmall soc.modules o.place o.core sound.small o.core_at) in
+    all_at (λ (t : Test). t.patterns < 10 ^ 12) o.core.tests o.cut.at c.test small.tests o.cut.test_at
 
 -- a live test that is cut is one of the live tests
 live_among : (limits : LimitsValue) (most : ℕ) (soc : SocValue) (i : ℕ) (c : Cut) → slice_get (all_cuts limits most soc) i ≡ Some c → is_live c.test ≡ true → Contains (live_ids soc) c.whole
@@ -131,7 +132,7 @@ live_among limits most soc i c at live =
     let o = cut_of_chip limits most soc i c at in
     let l = live_cut limits most soc c o live in
     let name : id_of l.1 ≡ c.whole = live_whole limits most soc c o l.1 l.4 l.5 in
-    subst (λ (id : TestId). Contains (live_ids soc) id) name (at_contains (live_ids soc) l.0 (id_of l.1) (at_map id_of (live_tests soc) l.0 l.1 l.2))
+    subst (λ (id : TestId). Contains (live_ids soc) id) name (at_contains (live_ids soc) l.0 (id_of l.1) (map_at id_of (live_tests soc) l.0 l.1 l.2))
 
 -- a part of a test of lower rank comes first
 before : (r s k : ℕ) → r < s → k < 10 ^ 13 → r * 10 ^ 13 + k < s * 10 ^ 13 + 0

@@ -13,16 +13,17 @@ use Rattle.plan_model.specs.Plans.{LimitsValue, ProfileValue, greatest, of_first
 use Rattle.plan_model.specs.SoundLimits.{HasTest, Grow, IsSoundProfile, IsSoundLimits}
 use Rattle.plan_model.proofs.CertificatesAreBounds.{same_test_is, is_same_test}
 use Rattle.plan_model.proofs.Greatest.{greatest-least}
-use Rattle.plan_model.proofs.Lists.{from_map, from_flat_map}
+use Rattle.plan_model.proofs.Lists.{from_flat_map}
 use Rattle.live_tests.specs.Names.{AllDiffer}
 use Rattle.split_plan.specs.declared.cuts.Cut.{Cut}
 use Rattle.split_plan.specs.Cuts.{part_power, peak, all_cuts, cut_named, part_id}
 use Rattle.split_plan.specs.Parts.{split_chip, split_limits, kept_profile, profiles_of}
 use Rattle.split_plan.specs.Steps.{profiled}
-use Rattle.split_plan.proofs.Lists.{item_of, all_at, differ_append, at_map}
+use Rattle.split_plan.proofs.Lists.{differ_append}
 use Rattle.split_plan.proofs.CutTests.{IsCutOf, cut_of_chip, name_of, piece_unique}
 use Rattle.split_plan.proofs.PartsAsTests.{has_part, live_cut, live_whole, live_piece, whole_live, flip_test, named, from_named, lie, piece_at}
 use Rattle.split_plan.proofs.Precedences.{before_known, acyclic}
+use Rattle.common_lemmas.proofs.Lists.{all_at, all_from, map_at, from_map}
 
 -- the profile of a test of one part
 pub record IsKept (limits : LimitsValue) (most : ℕ) (soc : SocValue) (old r : ProfileValue) : Type 0 where
@@ -249,7 +250,7 @@ part_draws limits most soc some sound bounds bound k at c there inside old r = e
       let many : 1 < c.count = grind (arith, nat_tests, several) in
       let power : c.power ≡ peak limits c.whole c.test.power = power_is limits most soc c (cut_of_chip limits most soc at c there) ∙ cut several in
       let own : drawn (profiles_of (all_cuts limits most soc) limits.profiles) (part_id c k) c.power r ≡ c.power = no_profile limits most soc some sound at k c there inside many c.power r limits.profiles in
-      subst (λ (n : ℕ). n ≤ bound) (sym (own ∙ power)) (peak-le bound c.whole c.test.power limits.profiles (λ i p p_at. (item_of (IsSoundProfile soc) limits.profiles i p bounds.profiles p_at).grows) old)
+      subst (λ (n : ℕ). n ≤ bound) (sym (own ∙ power)) (peak-le bound c.whole c.test.power limits.profiles (λ i p p_at. (all_at (IsSoundProfile soc) limits.profiles i p bounds.profiles p_at).grows) old)
 ]
   where
     single : nat_le c.count 1 ≡ true → part_power limits c.whole c.test c.count ≡ c.test.power
@@ -295,8 +296,8 @@ limits_sound limits most soc some sound bounds parts = record {
   few_wires = bounds.few_wires;
   power = bounds.power;
   budget = bounds.budget;
-  before = all_at (λ (p : TestId × TestId). HasTest (split_chip limits most soc) p.0 × HasTest (split_chip limits most soc) p.1) (split_limits limits most soc).before (before_known limits most soc some parts);
-  profiles = all_at (IsSoundProfile (split_chip limits most soc)) (split_limits limits most soc).profiles each;
+  before = all_from (λ (p : TestId × TestId). HasTest (split_chip limits most soc) p.0 × HasTest (split_chip limits most soc) p.1) (split_limits limits most soc).before (before_known limits most soc some parts);
+  profiles = all_from (IsSoundProfile (split_chip limits most soc)) (split_limits limits most soc).profiles each;
   one_profile = λ p q x y at there same. apart p q x y at there same;
   acyclic = acyclic limits most soc some sound bounds.acyclic;
   within = λ i l at r. if_limit (λ (bound : ℕ). power_of_id (split_limits limits most soc) (id_of l) l.test.power r ≤ bound) limits.power (λ bound limit. within limits most soc some sound bounds i l at r bound limit);
@@ -305,10 +306,10 @@ limits_sound limits most soc some sound bounds parts = record {
     each : (i : ℕ) (r : ProfileValue) → slice_get (profiles_of (all_cuts limits most soc) limits.profiles) i ≡ Some r → IsSoundProfile (split_chip limits most soc) r
     each i r at =
         let f = profile_from limits most soc limits.profiles i r at in
-        profile_sound limits most soc some parts f.1 r (item_of (IsSoundProfile soc) limits.profiles f.0 f.1 bounds.profiles f.2) f.3
+        profile_sound limits most soc some parts f.1 r (all_at (IsSoundProfile soc) limits.profiles f.0 f.1 bounds.profiles f.2) f.3
 
     apart : (p q : ℕ) (x y : ProfileValue) → slice_get (profiles_of (all_cuts limits most soc) limits.profiles) p ≡ Some x → slice_get (profiles_of (all_cuts limits most soc) limits.profiles) q ≡ Some y → x.test ≡ y.test → p ≡ q
     apart p q x y at there same =
         kept_differ limits most soc some sound limits.profiles bounds.one_profile p q y.test
-        (at_map (λ (p : ProfileValue). p.test) (profiles_of (all_cuts limits most soc) limits.profiles) p x at ∙ ap Some same)
-        (at_map (λ (p : ProfileValue). p.test) (profiles_of (all_cuts limits most soc) limits.profiles) q y there)
+        (map_at (λ (p : ProfileValue). p.test) (profiles_of (all_cuts limits most soc) limits.profiles) p x at ∙ ap Some same)
+        (map_at (λ (p : ProfileValue). p.test) (profiles_of (all_cuts limits most soc) limits.profiles) q y there)

@@ -2,7 +2,7 @@
 use Rattle.std.proofs.Common.{◌≡◌, ◌⊎◌, inl, inr, ℕ, zero, suc, ◌+◌, Bool, true, false, ◌&&◌, ◌||◌, List, [], ◌∷◌, ◌++◌, length, map, get_or, nat_eq, position, option_map, not, cond, Option, None, Some, is_some, refl, sym, ◌∙◌, ap, subst, eq-eqb}
 use Rattle.std.specs.Prelude.{find, slice_get}
 use Rattle.std.specs.List.{list_any, filter, flat_map}
-use Rattle.std.proofs.lemmas.Bool.{cases_Bool, eqb-true, and_parts}
+use Rattle.std.proofs.lemmas.Bool.{cases_Bool, eqb-true, and_parts, or_parts}
 use Rattle.std.proofs.lemmas.List.Folds.{list_any-append}
 use Rattle.std.proofs.lemmas.List.Quantifiers.{position-Some}
 use Rattle.std.proofs.lemmas.Option.{slice_get-map, slice_get-get_or, slice_get_within, get_or_from_slice_get}
@@ -13,13 +13,15 @@ use Rattle.soc_model.specs.Lookups.{module_place, test_places, with_test}
 use Rattle.soc_model.specs.Modes.{is_tam}
 use Rattle.soc_model.specs.SoundChips.{IsSoundChip, IsSoundModule}
 use Rattle.soc_model.proofs.Places.{IsKeyed-from_sound, place-from_module, module-from_place, test_places-at}
-use Rattle.plan_model.proofs.Lists.{from_map, in_append_left, in_append_right}
-use Rattle.plan_model.proofs.Finding.{in_filter, none_passes}
+use Rattle.plan_model.proofs.Lists.{in_append_right}
+use Rattle.plan_model.proofs.Finding.{none_passes}
 use Rattle.test_data.specs.declared.Misfit.{Misfit}
 use Rattle.test_data.specs.declared.misfits.Wanted.{Wanted}
 use Rattle.test_data.specs.DataWords.{PatternValue, EntryValue}
 use Rattle.test_data.specs.Suiting.{wanted_for, wanted_by, tam_only, test_in, test_at, name_in, tam_names_in, tam_names, entry_names, has_name, misnamed_after, first_misnamed, first_missing, patterns_against, wrong_patterns, wrong_word, bits_against, wrong_bits, or_else, first_of, misnaming, misfit_of}
 use Rattle.test_data.specs.Agreement.{IsTamTest, HasEntry, Suits}
+use Rattle.common_lemmas.proofs.Tests.{not_true, not_false}
+use Rattle.common_lemmas.proofs.Lists.{in_filter, from_map, at_left}
 
 -- ---- names
 
@@ -30,18 +32,6 @@ same_id a b e =
 
 pub id_itself : (a : TestId) → same_test a a ≡ true
 id_itself a = rw (eq-eqb a.«module» a.«module» refl, eq-eqb a.test a.test refl) refl
-
-or_false : (a b : Bool) → (a || b) ≡ false → (a ≡ false) × (b ≡ false)
-or_false true b e = absurd cc
-or_false false b e = (refl, e)
-
-not_true : (b : Bool) → not b ≡ false → b ≡ true
-not_true true e = refl
-not_true false e = absurd cc
-
-not_false : (b : Bool) → not b ≡ true → b ≡ false
-not_false true e = absurd cc
-not_false false e = refl
 
 -- ---- the rule of names
 
@@ -58,7 +48,7 @@ first_right soc before ids id none = by (cases_Bool (is_some (wanted_by soc id) 
   where
     by : ((is_some (wanted_by soc id) && not (has_name before id)) ≡ true) ⊎ ((is_some (wanted_by soc id) && not (has_name before id)) ≡ false)
         → (is_some (wanted_by soc id) ≡ true) × (has_name before id ≡ false) × (misnamed_after soc (before ++ id ∷ []) ids ≡ None)
-    by (inl y) = let parts = and_parts (is_some (wanted_by soc id)) (not (has_name before id)) y in (parts.0, not_false (has_name before id) parts.1, (rw y at none))
+    by (inl y) = let parts = and_parts (is_some (wanted_by soc id)) (not (has_name before id)) y in (parts.0, not_true (has_name before id) parts.1, (rw y at none))
     by (inr n) = absurd (let f = rw n at none in cc)
 
 are_named : (soc : SocValue) (before ns : List TestId) → misnamed_after soc before ns ≡ None → AreNamed soc before ns
@@ -72,7 +62,7 @@ are_named soc before (x ∷ xs) none =
     record { known = known f rest; new = new f rest; differ = differ rest }
   where
     apart : AreNamed soc (before ++ x ∷ []) xs → (q : ℕ) (id : TestId) → slice_get xs q ≡ Some id → (has_name before id ≡ false) × (list_any (same_test id) (x ∷ []) ≡ false)
-    apart rest q id at = or_false (has_name before id) (list_any (same_test id) (x ∷ [])) (sym (list_any-append (same_test id) before (x ∷ [])) ∙ rest.new q id at)
+    apart rest q id at = or_parts (has_name before id) (list_any (same_test id) (x ∷ [])) (sym (list_any-append (same_test id) before (x ∷ [])) ∙ rest.new q id at)
 
     known : (is_some (wanted_by soc x) ≡ true) × (has_name before x ≡ false) × (misnamed_after soc (before ++ x ∷ []) xs ≡ None) → AreNamed soc (before ++ x ∷ []) xs → (q : ℕ) (id : TestId) → slice_get (x ∷ xs) q ≡ Some id → is_some (wanted_by soc id) ≡ true
     known f rest zero id at = let same : x ≡ id = cc in ap (λ i. is_some (wanted_by soc i)) (sym same) ∙ f.0
@@ -118,7 +108,7 @@ named_at (n ∷ names) id e = by (cases_Bool (same_test id n)) (named_at names i
 -- a name of a module is one of the chip
 in_modules : (ms : List ModuleValue) (p : ℕ) (m : ModuleValue) (i : ℕ) (id : TestId) → slice_get ms p ≡ Some m → slice_get (tam_names_in m) i ≡ Some id → (j : ℕ) × (slice_get (flat_map tam_names_in ms) j ≡ Some id)
 in_modules [] p m i id at there = absurd cc
-in_modules (x ∷ ms) zero m i id at there = let same : x ≡ m = cc in (i, in_append_left (tam_names_in x) (flat_map tam_names_in ms) i id (ap (λ y. slice_get (tam_names_in y) i) same ∙ there))
+in_modules (x ∷ ms) zero m i id at there = let same : x ≡ m = cc in (i, at_left (tam_names_in x) (flat_map tam_names_in ms) i id (ap (λ y. slice_get (tam_names_in y) i) same ∙ there))
 in_modules (x ∷ ms) (suc p) m i id at there = let r = in_modules ms p m i id at there in in_append_right (tam_names_in x) (flat_map tam_names_in ms) r.0 id r.1
 
 tam_name_at : (soc : SocValue) (m : ModuleValue) (t : Test) → IsTamTest soc m t → (j : ℕ) × (slice_get (tam_names soc) j ≡ Some (name_in m t))
@@ -130,7 +120,7 @@ tam_name_at soc m t is =
 is_named : (soc : SocValue) (names : List TestId) → first_missing soc names ≡ None → (m : ModuleValue) (t : Test) → IsTamTest soc m t → (q : ℕ) × (slice_get names q ≡ Some (name_in m t))
 is_named soc names none m t is =
     let j = tam_name_at soc m t is in
-    named_at names (name_in m t) (not_true (has_name names (name_in m t)) (find_none (λ id. not (has_name names id)) (tam_names soc) none j.0 (name_in m t) j.1))
+    named_at names (name_in m t) (not_false (has_name names (name_in m t)) (find_none (λ id. not (has_name names id)) (tam_names soc) none j.0 (name_in m t) j.1))
 
 -- ---- what is wanted of a test
 

@@ -38,12 +38,6 @@ front_after a b c x y rest whole is first front =
     let long : length whole ≡ length x + (length y + length rest) = ap length is ∙ length-append x (y ++ rest) ∙ omega (arith, length-append y rest) in
     (length x + front.0, omega (arith, long, front.1), rw cut (Appended-then a b c x (take front.0 y) first front.2))
 
--- what a block of few enough lines takes
-pub block_fits : (count lines line size : ℕ) → count ≤ lines → lines * line ≤ size → count * line ≤ size
-block_fits count lines line size few fits =
-    let less : count * line ≤ lines * line = mul-le-mul_right line few in
-    omega (arith, less, fits)
-
 -- the lines before a block, those of the block, and the others
 pub lines_rest : (f : ℕ → List ℕ) (done count cycles : ℕ) (block : List ℕ) → done + count ≤ cycles → block ≡ flat_map f (range_with_len done count) →
     flat_map f (range_with_len 0 cycles) ≡ flat_map f (range_with_len 0 done) ++ (block ++ flat_map f (range_with_len (done + count) (cycles - (done + count))))

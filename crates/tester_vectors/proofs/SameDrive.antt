@@ -12,6 +12,7 @@ use Rattle.plan_model.specs.Runs.{Content, State, next_bits, bits_at, chain_at, 
 use Rattle.plan_model.proofs.ChainsInTheRun.{AreApart}
 use Rattle.plan_model.proofs.TestsInGoodPlans.{OnBus, on_bus}
 use Rattle.bit_machine.specs.Chips.{wires_of}
+use Rattle.common_lemmas.proofs.Lists.{taken_within}
 
 pub same_over_range : {X : Type 0} (f g : ℕ → X) (a n : ℕ) → ((j : ℕ) → a ≤ j → j < a + n → f j ≡ g j) → map f (range_with_len a n) ≡ map g (range_with_len a n)
 same_over_range f g a zero h = refl
@@ -47,18 +48,8 @@ run_same content tests wires cycles (suc c) drive drive' chains same h =
 
 -- ---- the chains of a good plan are on its wires
 
-wires_before : (ws : List ℕ) (b : ℕ) → sum (take b ws) + slice_index ws b ≤ sum ws
-wires_before ws b = go (cases_lt b (length ws)) where
-  go : (b < length ws) ⊎ (length ws ≤ b) → sum (take b ws) + slice_index ws b ≤ sum ws
-  go (inl within) =
-      let more : sum (take (b + 1) ws) ≡ sum (take b ws) + get_or ws b 0 = sum_by_more (λ x. x) ws b 0 within in
-      omega (arith, more, sum_by-take-le (λ x. x) ws (b + 1))
-  go (inr past) =
-      let none : get_or ws b 0 ≡ 0 = get_or_past ws b 0 past in
-      omega (arith, none, sum_by-take-le (λ x. x) ws b)
-
 pub chains_within : (soc : SocValue) (plan : PlanValue) → AreApart (planned soc plan) → ChainsWithin (planned soc plan) (wires_of plan)
 chains_within soc plan stand i j t at within =
     let on : OnBus plan t = on_bus soc plan i t at in
     let fit : length t.chains ≤ t.width = stand.fit i t at in
-    omega (arith, on.first, on.wide, wires_before (widths plan) t.bus)
+    omega (arith, on.first, on.wide, taken_within (widths plan) t.bus)

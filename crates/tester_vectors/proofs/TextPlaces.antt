@@ -11,13 +11,9 @@ use Rattle.bit_machine.specs.Chips.{wires_of}
 use Rattle.tester_vectors.specs.Marks.{digit, mark, Marks}
 use Rattle.tester_vectors.specs.VectorText.{head_line, driven_text, compared_text, cycle_line, marked_text}
 use Rattle.tester_vectors.specs.DrivenRuns.{line_begin}
+use Rattle.common_lemmas.proofs.Lists.{in_front}
 
 -- ---- joined lists
-
-pub at_front : {X : Type 0} (xs ys : List X) (i : ℕ) → i < length xs → slice_get (xs ++ ys) i ≡ slice_get xs i
-at_front [] ys i h = absurd (omega arith)
-at_front (x ∷ xs) ys zero h = refl
-at_front (x ∷ xs) ys (suc i) h = at_front xs ys i (omega arith)
 
 pub at_back : {X : Type 0} (xs ys : List X) (i n : ℕ) → n ≡ length xs + i → slice_get (xs ++ ys) n ≡ slice_get ys i
 at_back [] ys i n e = let same : n ≡ i = omega arith in rw same refl
@@ -31,7 +27,7 @@ in_pieces f long each a (suc n) zero j m h within e =
     let size : length (f a) ≡ long = each a in
     let place : a + 0 ≡ a = omega arith in
     let here : m ≡ j = omega arith in
-    rw (place, here) (at_front (f a) (flat_map f (range_with_len (a + 1) n)) j (omega arith))
+    rw (place, here) (in_front (f a) (flat_map f (range_with_len (a + 1) n)) j (omega arith))
 in_pieces f long each a (suc n) (suc i) j m h within e =
     let size : length (f a) ≡ long = each a in
     let place : a + suc i ≡ (a + 1) + i = omega arith in
@@ -62,7 +58,7 @@ pub line_driven : (content : Content) (marks : Marks) (tests : List PlannedTest)
 unfolding cycle_line
 line_driven content marks tests wires c w h =
     let long = driven_long content tests wires c in
-    at_front (driven_text content tests wires c) (codes " " ++ (compared_text marks tests wires c ++ codes "\n")) w (omega arith)
+    in_front (driven_text content tests wires c) (codes " " ++ (compared_text marks tests wires c ++ codes "\n")) w (omega arith)
     ∙ at_range (λ w. digit (carried content tests c w)) 0 wires w h
     ∙ let place : 0 + w ≡ w = omega arith in rw place refl
 
@@ -86,7 +82,7 @@ line_compared content marks tests wires c w h =
     let long = driven_long content tests wires c in
     let long' = compared_long marks tests wires c in
     at_back (driven_text content tests wires c) (codes " " ++ (compared_text marks tests wires c ++ codes "\n")) (suc w) (wires + 1 + w) (omega arith)
-    ∙ at_front (compared_text marks tests wires c) (codes "\n") w (omega arith)
+    ∙ in_front (compared_text marks tests wires c) (codes "\n") w (omega arith)
     ∙ at_range (mark marks tests c) 0 wires w h
     ∙ let place : 0 + w ≡ w = omega arith in rw place refl
 

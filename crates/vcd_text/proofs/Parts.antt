@@ -10,14 +10,7 @@ use Rattle.cycle_forms.specs.Rows.{CycleRow, IsPutAt}
 use Rattle.vcd_text.specs.Dumps.{Change, change_line, changes, has_changed, value_of}
 use Rattle.vcd_text.specs.Forms.{sources_of_wire, wire_sources, control_sources}
 use Rattle.vcd_text.specs.Variables.{Source, OfControl}
-
-pub on_ok : {A E P Q : Type 0} (r : Result A E) → (P → Q) → OnOk r P → OnOk r Q
-on_ok (Ok x) f p = f p
-on_ok (Err e) f p = p
-
--- two pieces behind a text are one
-pub join : (first second third a b : List ℕ) → second ≡ first ++ a → third ≡ second ++ b → third ≡ first ++ (a ++ b)
-join first second third a b more most = most ∙ ap (λ t. t ++ b) more ∙ append_assoc first a b
+use Rattle.common_lemmas.proofs.Ranges.{range_more}
 
 -- ---- parts
 
@@ -94,15 +87,6 @@ pub lines-one : (p : Source → Bool) (row : CycleRow) (n : ℕ) (s : Source) �
 lines-one p row n s = lines-cons p row n s [] ∙ append-nil (line_if p row n s)
 
 -- ---- of wires
-
-range_more : (a n : ℕ) → range_with_len a (n + 1) ≡ range_with_len a n ++ (a + n) ∷ []
-range_more a zero =
-    let e : a + 0 ≡ a = omega arith in
-    rw e refl
-range_more a (suc n) =
-    let e : a + 1 + n ≡ a + suc n = omega arith in
-    let f : suc n + 1 ≡ suc (n + 1) = omega arith in
-    rw f (ap (λ v. a ∷ v) (range_more (a + 1) n ∙ rw e refl))
 
 wires-more : (w : ℕ) → wire_sources (w + 1) ≡ wire_sources w ++ sources_of_wire w
 wires-more w =

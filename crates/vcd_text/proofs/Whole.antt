@@ -19,18 +19,9 @@ use Rattle.vcd_text.specs.Forms.{control_sources, form_sources, sources_of_wire,
 use Rattle.vcd_text.specs.Listings.{number_of, AreListed}
 use Rattle.vcd_text.specs.Variables.{Source, OfDriven, OfCompared, OfControl, Variable, Scope, bus_scopes, live_of_module, module_scope, module_scopes, one_if, run_variables, scope_of_module, sources_in, sources_of, wire_variables, wired_variables}
 use Rattle.vcd_text.proofs.Listed.{scope_lines-append, lives-length, tams-length}
+use Rattle.common_lemmas.proofs.Ranges.{range_split}
 
 -- ---- what the variables of wires show
-
-range_split : (a n m : ℕ) → range_with_len a (n + m) ≡ range_with_len a n ++ range_with_len (a + n) m
-range_split a zero m =
-    let e : 0 + m ≡ m = omega arith in
-    let f : a + 0 ≡ a = omega arith in
-    rw (e, f) refl
-range_split a (suc n) m =
-    let e : suc n + m ≡ suc (n + m) = omega arith in
-    let f : a + 1 + n ≡ a + suc n = omega arith in
-    rw e (ap (λ v. a ∷ v) (range_split (a + 1) n m ∙ rw f refl))
 
 wire_sources_in : (a n : ℕ) → sources_in (flat_map wire_variables (range_with_len a n)) ≡ flat_map sources_of_wire (range_with_len a n)
 wire_sources_in a zero = refl

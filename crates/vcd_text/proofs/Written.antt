@@ -6,6 +6,7 @@ use Rattle.cycle_forms.specs.Rows.{CycleRow}
 use Rattle.vcd_text.specs.Dumps.{Change, changes, has_changed, value_of}
 use Rattle.vcd_text.specs.Shown.{later, last_written, changes_before}
 use Rattle.vcd_text.specs.Variables.{Source}
+use Rattle.common_lemmas.proofs.Tests.{same_number}
 
 later_later : (a b c : Option ℕ) → later (later a b) c ≡ later a (later b c)
 later_later None b c = refl
@@ -20,10 +21,6 @@ last-append k [] ys = sym (none (last_written k ys))
 last-append k (x ∷ xs) ys =
     ap (λ o. later o (cond (nat_eq x.number k) (Some x.value) None)) (last-append k xs ys)
     ∙ later_later (last_written k ys) (last_written k xs) (cond (nat_eq x.number k) (Some x.value) None)
-
--- the same number, and another one
-same_number : (n : ℕ) → nat_eq n n ≡ true
-same_number n = eq-eqb n n refl
 
 other_number : (n k : ℕ) → (n ≡ k → ⊥) → nat_eq n k ≡ false
 other_number n k differ =

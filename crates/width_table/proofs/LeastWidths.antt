@@ -13,6 +13,8 @@ use Rattle.width_table.specs.Times.{IsChosen, mode_tests, mode_time, time, time_
 use Rattle.width_table.specs.Choices.{HasPaths, IsChoice, AreChoices, AreTimes, IsRow, AreRows, HasRows, last_of, takes_fewer, with_choice, choices_in}
 use Rattle.width_table.specs.declared.choosing.Choice.{Choice}
 use Rattle.width_table.specs.declared.rows.ModuleRow.{ModuleRow}
+use Rattle.common_lemmas.proofs.Lists.{some_item}
+use Rattle.common_lemmas.proofs.Options.{if_some}
 
 pub chosen_first : (f : ℕ → ℕ) → IsChosen f 1 1
 chosen_first f = record { some = omega arith; within = omega arith; least = λ u a b. let e : u ≡ 1 = omega arith in let s : f u ≡ f 1 = ap f e in omega arith; first = λ u a b. absurd (omega arith) }
@@ -226,10 +228,6 @@ time_from m w a b x y = omega (arith, x.cycles, y.cycles, time_of_chosen m w a.w
 
 -- ---- the table
 
-if_some : {X : Type 0} (o : Option X) (P : X → Type 0) → ((x : X) → o ≡ Some x → P x) → IfSome o P
-if_some None P h = tt
-if_some (Some x) P h = h x refl
-
 -- what holds of the module at a place
 pub at_place : {X : Type 0} (xs : List X) (k : ℕ) (P : X → Type 0) → ((x : X) → slice_get xs k ≡ Some x → P x) → IfSome (slice_get xs k) P
 at_place xs k P h = if_some (slice_get xs k) P h
@@ -252,13 +250,8 @@ push_time m k time' times h is = record {
   ];
 }
 
-item_there : {X : Type 0} (xs : List X) (k : ℕ) → k < length xs → (x : X) × (slice_get xs k ≡ Some x)
-item_there [] k h = absurd (omega arith)
-item_there (x ∷ xs) zero h = (x, refl)
-item_there (x ∷ xs) (suc k) h = item_there xs k (omega arith)
-
 pub module_there : (soc : SocValue) (place : ℕ) → place < length soc.modules → (m : ModuleValue) × (slice_get soc.modules place ≡ Some m)
-module_there soc place h = item_there soc.modules place h
+module_there soc place h = some_item soc.modules place h
 
 read_at : {X : Type 0} (xs : List X) (k : ℕ) (x d : X) → x ≡ get_or xs k d → k < length xs → slice_get xs k ≡ Some x
 read_at xs k x d e h = slice_get-get_or xs k d h ∙ ap Some (sym e)

@@ -20,7 +20,6 @@ use Rattle.soc_model.specs.Modes.{same_mode}
 use Rattle.plan_model.specs.Bounds.{sum_below, least_from_one}
 use Rattle.soc_model.specs.Modes.{has_tam}
 use Rattle.plan_model.specs.Certificates.{passes}
-use Rattle.plan_model.proofs.Lists.{any_at}
 use Rattle.plan_model.proofs.Sums.{item-le-sum_by, sum_by-filter}
 use Rattle.plan_model.proofs.OperationCounts.{ops_length}
 use Rattle.wrapper_design.specs.Design.{mode_of, design}
@@ -32,6 +31,7 @@ use Rattle.width_table.specs.Tables.{TableValue, IsTable, places_of, time_if, ti
 use Rattle.width_table.proofs.Work.{live_of_mode, tam_of_mode, one_test, over_wires, idle_time}
 use Rattle.plan_model.proofs.FirstAndLeast.{least-ge, least-zero}
 use Rattle.width_table.proofs.LeastWidths.{time_falls, time_of_chosen, module_there}
+use Rattle.common_lemmas.proofs.Lists.{any_at}
 
 -- ---- the time on one wire is within the work
 

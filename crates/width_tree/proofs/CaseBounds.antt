@@ -12,7 +12,6 @@ use Rattle.soc_model.specs.Chips.{ModuleValue, SocValue, LiveTest, is_live, live
 use Rattle.soc_model.specs.Lookups.{module_place}
 use Rattle.soc_model.specs.Modes.{is_tam, has_tam}
 use Rattle.soc_model.proofs.Places.{slice_get-from_position}
-use Rattle.soc_model.proofs.Sums.{sum_by-map}
 use Rattle.plan_model.specs.Plans.{PlanValue, LimitsValue, PlannedTest, planned, planned_test, widths, IsActive}
 use Rattle.plan_model.specs.Right.{IsAt}
 use Rattle.plan_model.specs.Rules.{Each, IsGood, Busy, Wires}
@@ -20,11 +19,10 @@ use Rattle.plan_model.specs.Bounds.{sum_below, quotient_up, lower, is_of, module
 use Rattle.plan_model.specs.Certificates.{on, passes, has_tam_at, HasTamTest}
 use Rattle.plan_model.proofs.CertificatesByPlace.{forced_bound}
 use Rattle.plan_model.proofs.CertificatesAreBounds.{place_or, places_of, some_place, AreDistinct, forced_sum}
-use Rattle.plan_model.proofs.Finding.{in_filter}
 use Rattle.plan_model.proofs.ForcedBounds.{apart_bound_at}
 use Rattle.plan_model.proofs.GoodPlansRunRight.{planned_place}
 use Rattle.plan_model.proofs.LowerTimes.{quotient_up-le}
-use Rattle.plan_model.proofs.Lists.{from_map, any_at, in_append_left, in_append_right}
+use Rattle.plan_model.proofs.Lists.{in_append_right}
 use Rattle.plan_model.proofs.PlannedTests.{Origin, origin, IsLive, live_at}
 use Rattle.plan_model.proofs.PowerAndAreaBounds.{widths_fit, some_width, planned_bus_width, bus_width, total_area}
 use Rattle.plan_model.proofs.Sums.{sum_by-le_at, sum_by-times}
@@ -37,6 +35,7 @@ use Rattle.width_tree.specs.Bounds.{IsEnough, AreEnough}
 use Rattle.width_tree.specs.Findings.{IsInterval, AreIntervals}
 use Rattle.width_tree.specs.Laws.{AcceptedTreesAreBounds}
 use Rattle.width_tree.proofs.CaseFacts.{set_same, set_other, root_at, root_intervals, narrow_intervals, wide_intervals, least_over-le}
+use Rattle.common_lemmas.proofs.Lists.{two_widths, from_map, any_at, at_left, in_filter, sum_map}
 
 -- ---- planned tests and their widths
 
@@ -128,7 +127,7 @@ in_live [] base up p j m l is at there = absurd cc
 in_live (x ∷ ms) base zero p j m l is at there =
     let same : x ≡ m = cc in
     let here : base ≡ p = omega arith in
-    (j, in_append_left (live_of base x) (live_from (base + 1) ms) j l (rw (here, same) there))
+    (j, at_left (live_of base x) (live_from (base + 1) ms) j l (rw (here, same) there))
 in_live (x ∷ ms) base (suc up) p j m l is at there =
     let r = in_live ms (base + 1) up p j m l (omega arith) at there in
     in_append_right (live_of base x) (live_from (base + 1) ms) r.0 l r.1
@@ -263,23 +262,6 @@ area_bounds soc limits plan c some good is are =
     each t (inr no') = rw (no', sum_below-zero (length soc.modules)) (omega arith)
 
 -- ---- modules that need one bus
-
-two_widths : (ws : List ℕ) (b b' : ℕ) → b < b' → slice_index ws b + slice_index ws b' ≤ sum ws
-two_widths ws b b' less = elim (cases_lt b' (length ws)) [
-  | inl within ↦
-      let one : sum (take (b + 1) ws) ≡ sum (take b ws) + get_or ws b 0 = sum_by_more (λ x. x) ws b 0 (omega arith) in
-      let two : sum (take (b' + 1) ws) ≡ sum (take b' ws) + get_or ws b' 0 = sum_by_more (λ x. x) ws b' 0 within in
-      let front : take (b + 1) (take b' ws) ≡ take (b + 1) ws = take-take (b + 1) b' ws (omega arith) in
-      let first = rw front at (sum_by-take-le (λ x. x) (take b' ws) (b + 1)) in
-      let second : sum (take (b' + 1) ws) ≤ sum ws = sum_by-take-le (λ x. x) ws (b' + 1) in
-      omega (arith, first)
-  | inr past ↦
-      let none : get_or ws b' 0 ≡ 0 = get_or_past ws b' 0 past in
-      elim (cases_lt b (length ws)) [
-        | inl within ↦ let one : get_or ws b 0 ≤ sum ws = get_or-le-sum_by (λ x. x) ws b 0 within in omega arith
-        | inr past' ↦ let none' : get_or ws b 0 ≡ 0 = get_or_past ws b 0 past' in omega arith
-      ]
-]
 
 -- two tests that are too wide for two buses share one
 one_bus : (soc : SocValue) (limits : LimitsValue) (plan : PlanValue) → IsGood soc limits plan → (i j : ℕ) (t u : PlannedTest) → IsAt (planned soc plan) i t → IsAt (planned soc plan) j u → limits.wires < t.width + u.width → t.bus ≡ u.bus
@@ -426,7 +408,7 @@ bus_bounds soc limits plan c some good is are ms keeps = value (least_high soc l
     value : (h : ℕ) → 1 ≤ h → ((k : ℕ) (t : PlannedTest) → IsAt (planned soc plan) k t → t.tam ≡ true → list_any (nat_eq t.place) (places_of soc ms) ≡ true → t.width ≤ h) → sum_by (tam_time_of soc h) ms ≤ plan.cycles
     value h some_high fits =
         let by_places : sum_by (tam_time_of soc h) ms ≤ sum_by (λ m. lower_tam_time soc (place_or soc m) h) ms = sum_by-le_at (tam_time_of soc h) (λ m. lower_tam_time soc (place_or soc m) h) ms (λ i m at. least (module_place soc m)) in
-        let mapped : sum_by (λ p. lower_tam_time soc p h) (places_of soc ms) ≡ sum_by (λ m. lower_tam_time soc (place_or soc m) h) ms = sum_by-map (λ p. lower_tam_time soc p h) (place_or soc) ms in
+        let mapped : sum_by (λ p. lower_tam_time soc p h) (places_of soc ms) ≡ sum_by (λ m. lower_tam_time soc (place_or soc m) h) ms = sum_map (λ p. lower_tam_time soc p h) (place_or soc) ms in
         let all : sum_by (λ p. lower_tam_time soc p h) (places_of soc ms) ≤ forced_bound soc h (places_of soc ms) = forced_sum soc h (places_of soc ms) distinct in
         let turns : forced_bound soc h (places_of soc ms) ≤ plan.cycles = apart_bound_at soc limits plan good h some_high (λ l. l.test.tam && list_any (nat_eq l.place) (places_of soc ms)) (λ t. t.tam && list_any (nat_eq t.place) (places_of soc ms))
         (λ k t o. let a : o.l.test.tam ≡ t.tam = tam_says soc plan k t o in let b : o.l.place ≡ t.place = place_is soc plan k t o in rw (a, b) refl)
@@ -473,7 +455,7 @@ leaf_bounds soc limits plan claim c some good is are (OfApart a b) keeps shows =
 
 -- the nodes of the branches
 first_enough : (soc : SocValue) (w claim : ℕ) (n : NodeCase) (xs ys : List NodeCase) → AreEnough soc w claim (n ∷ (xs ++ ys)) → AreEnough soc w claim xs
-first_enough soc w claim n xs ys enough k x at = enough (suc k) x (in_append_left xs ys k x at)
+first_enough soc w claim n xs ys enough k x at = enough (suc k) x (at_left xs ys k x at)
 
 second_enough : (soc : SocValue) (w claim : ℕ) (n : NodeCase) (xs ys : List NodeCase) → AreEnough soc w claim (n ∷ (xs ++ ys)) → AreEnough soc w claim ys
 second_enough soc w claim n xs ys enough k x at = let r = in_append_right xs ys k x at in enough (suc r.0) x r.1

@@ -14,6 +14,7 @@ use Rattle.width_tree.proofs.OneTree.{one_tree}
 use Rattle.std.specs.Prelude.{Result, Ok, Err, OnOk}
 use Rattle.width_tree.specs.Trees.{nodes_of, IsOneTree}
 use Rattle.width_tree.specs.Bounds.{IsChecked, IsAcceptedTree}
+use Rattle.common_lemmas.proofs.Options.{some_same}
 
 same_place : (soc : SocValue) (w claim : ℕ) (nodes : List NodeCase) (p q : ℕ) (m n : NodeCase) → IsFirstLess soc w claim nodes p m → IsFirstLess soc w claim nodes q n → p ≡ q
 same_place soc w claim nodes p q m n a b = elim (cases_order p q) [
@@ -30,9 +31,6 @@ same_node soc w claim nodes p q m n a b =
     let there' : slice_get nodes q ≡ Some n = b.there in
     cc
 
-same_number : (x y : ℕ) → Some x ≡ Some y → x ≡ y
-same_number x y e = cc
-
 same_fault : (soc : SocValue) (w claim : ℕ) (nodes : List NodeCase) (f g : TreeFault) → HasFault soc w claim nodes f → HasFault soc w claim nodes g → f ≡ g
 same_fault soc w claim nodes (BadNode p) (BadNode q) a b = ap BadNode (same_place soc w claim nodes p q a.n b.n a.first b.first)
 same_fault soc w claim nodes (BadNode p) (Less q c s) a b =
@@ -43,7 +41,7 @@ same_fault soc w claim nodes (Less p c s) (Less q d u) a b =
     let place : p ≡ q = same_place soc w claim nodes p q a.n b.n a.first b.first in
     let node : a.n ≡ b.n = same_node soc w claim nodes p q a.n b.n a.first b.first in
     let claimed : c ≡ d = a.claimed_is ∙ sym b.claimed_is in
-    let shown : s ≡ u = same_number s u (sym a.shows ∙ ap (λ (n : NodeCase). node_shows soc w n.widths n.node) node ∙ b.shows) in
+    let shown : s ≡ u = some_same s u (sym a.shows ∙ ap (λ (n : NodeCase). node_shows soc w n.widths n.node) node ∙ b.shows) in
     cc
 
 pub one_fault : TreesHaveOneFault

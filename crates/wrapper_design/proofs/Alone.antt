@@ -9,13 +9,13 @@ use Rattle.std.proofs.lemmas.List.Sums.{sum_by-cons, sum_by-set}
 use Rattle.std.proofs.lemmas.Option.{slice_get_within, get_or_from_slice_get, slice_get-map}
 use Rattle.plan_model.specs.Plans.{greatest}
 use Rattle.plan_model.proofs.Greatest.{greatest_push}
-use Rattle.plan_model.proofs.Lists.{from_map}
 use Rattle.plan_model.proofs.Sums.{one_if, some_passes}
 use Rattle.wrapper_design.specs.declared.order.ScanChain.{ScanChain}
 use Rattle.wrapper_design.specs.Design.{scan_length, put_on_least, put_all_on_least, longest_part}
 use Rattle.wrapper_design.specs.Loads.{IsOrder}
 use Rattle.wrapper_design.proofs.Parts.{put_at, push_length}
 use Rattle.wrapper_design.proofs.Follow.{greatest_set, parts_after, parts_next, length-parts_after, greatest_zeros}
+use Rattle.common_lemmas.proofs.Lists.{from_map}
 
 -- at most `k` chains have flops, and `longest` is the greatest scan length
 record Alone (lengths : List ℕ) (ss : List (List ℕ)) (k longest : ℕ) : Type 0 where

@@ -8,12 +8,12 @@ use Rattle.std.proofs.lemmas.List.{length-map, map-set, map-append, take_more, l
 use Rattle.std.proofs.lemmas.List.Sums.{sum_by-cons, sum_by-append, sum_by-set}
 use Rattle.std.proofs.lemmas.Bool.{eqb-true, eq-eqb}
 use Rattle.plan_model.specs.Plans.{greatest}
-use Rattle.plan_model.proofs.Lists.{from_map}
 use Rattle.plan_model.proofs.Sums.{one_if, item-le-sum_by, some_passes}
 use Rattle.wrapper_design.specs.declared.order.ScanChain.{ScanChain}
 use Rattle.wrapper_design.specs.Design.{scan_length, put_on_least, put_all_on_least}
 use Rattle.wrapper_design.specs.Loads.{IsMinHeap, IsOrder}
 use Rattle.wrapper_design.proofs.Parts.{PutAt, put_at, push_length, length-put_all}
+use Rattle.common_lemmas.proofs.Lists.{from_map}
 
 pub root_least : (h : List ℕ) → IsMinHeap h → (n k : ℕ) → k < n → k < length h → slice_index h 0 ≤ slice_index h k
 root_least h heap zero k less within = absurd (omega arith)

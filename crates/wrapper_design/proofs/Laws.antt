@@ -10,7 +10,7 @@ use Rattle.plan_model.specs.Cells.{IsProper}
 use Rattle.plan_model.specs.Plans.{greatest}
 use Rattle.plan_model.specs.Bounds.{quotient_up}
 use Rattle.plan_model.proofs.Sums.{one_if}
-use Rattle.plan_model.proofs.Lists.{from_append, contains_at}
+use Rattle.plan_model.proofs.Lists.{from_append}
 use Rattle.plan_model.proofs.LowerTimes.{quotient_up-le, sum_places}
 use Rattle.plan_model.proofs.Sums.{item-le-sum_by}
 use Rattle.plan_model.proofs.ProperByCounts.{times_range}
@@ -19,6 +19,7 @@ use Rattle.wrapper_design.specs.Design.{Mode, mode_of, scan_length, longest_firs
 use Rattle.wrapper_design.specs.Balance.{IsBalanced, in_length_of, out_length_of, scan_lengths_of}
 use Rattle.wrapper_design.proofs.Parts.{PutAt, put_at, get_set, push_length, length-put, length-scan_parts, all_of, sum_put_all, sum_sort, Falls, falls_sort}
 use Rattle.wrapper_design.proofs.Filled.{length-filled, scans-filled, parts-filled, get-filled, ins-filled, outs-filled, room, quotient_up-enough, in_lengths-dealt, out_lengths-dealt, ins_level, outs_level}
+use Rattle.common_lemmas.proofs.Lists.{contains_at}
 
 -- ---- each scan chain once
 

@@ -16,6 +16,8 @@ use Rattle.std.specs.Ordering.{nat_cmp, ordering_then, is_lt}
 use Rattle.wrapper_design.specs.Design.{put_by_length, sort_by_length, longest_first}
 use Rattle.wrapper_design.specs.Loads.{IsOrder}
 use Rattle.wrapper_design.proofs.Parts.{from_put, sum_sort}
+use Rattle.common_lemmas.proofs.Lists.{sum_map}
+use Rattle.common_lemmas.proofs.Numbers.{not_less}
 
 abbrev pub chain_at : List ℕ → ℕ → ScanChain
 chain_at lengths k = record { length = record { 0 = slice_index lengths k }; place = k }
@@ -104,26 +106,6 @@ one_order lengths (x ∷ xs) (y ∷ ys) same p q =
 
 -- ---- what a sort leaves
 
-pub range_push : {X : Type 0} (f : ℕ → X) (n : ℕ) → map f (range_with_len 0 (n + 1)) ≡ map f (range_with_len 0 n) ++ f n ∷ []
-range_push f n =
-    map-range_with_len_more f 0 n n (zero-add n)
-
-pub not_less : (a b c d : ℕ) → is_lt (ordering_then (nat_cmp a b) (nat_cmp c d)) ≡ false → (b < a) ⊎ ((a ≡ b) × (d ≤ c))
-not_less a b c d h = elim (cases_lt a b) [
-  | inl less ↦ let t : ltb a b ≡ true = lt-ltb a b less in let wrong : true ≡ false = rw t at h in absurd cc
-  | inr no' ↦ elim (cases_eq a b) [
-    | inl e ↦
-        let t : ltb a b ≡ false = le-ltb a b no' in
-        let t' : eqb a b ≡ true = eq-eqb a b e in
-        let h' : is_lt (nat_cmp c d) ≡ false = rw (t, t') at h in
-        elim (cases_lt c d) [
-          | inl less ↦ let u : ltb c d ≡ true = lt-ltb c d less in let wrong : true ≡ false = rw u at h' in absurd cc
-          | inr le ↦ inr (e, le)
-        ]
-    | inr ne ↦ inl (omega (arith, ne))
-  ]
-]
-
 in_order_from : (lengths cs : List ℕ) → ((k c d : ℕ) → slice_get cs k ≡ Some c → slice_get cs (suc k) ≡ Some d → IsBefore lengths c d) → InOrder lengths cs
 in_order_from lengths [] h = tt
 in_order_from lengths (c ∷ []) h = (λ n d at. absurd cc, tt)
@@ -134,12 +116,6 @@ in_order_from lengths (c ∷ e ∷ es) h =
     first : IsBefore lengths c e → ((n d : ℕ) → slice_get es n ≡ Some d → IsBefore lengths e d) → (n d : ℕ) → slice_get (e ∷ es) n ≡ Some d → IsBefore lengths c d
     first b later zero d at = let same : e ≡ d = cc in rw (← same) b
     first b later (suc n) d at = before_trans lengths c e d b (later n d at)
-
-sum_map : {X : Type 0} (f : ℕ → ℕ) (g : X → ℕ) (xs : List X) → sum_by f (map g xs) ≡ sum_by (λ x. f (g x)) xs
-sum_map f g [] = refl
-sum_map f g (x ∷ xs) =
-    let ih : sum_by f (map g xs) ≡ sum_by (λ x. f (g x)) xs = sum_map f g xs in
-    omega (arith, sum_by-cons f (g x) (map g xs), sum_by-cons (λ x. f (g x)) x xs)
 
 all_chain_at : (lengths ns : List ℕ) → All (λ (c : ScanChain). c.length.0 ≡ slice_index lengths c.place) (map (chain_at lengths) ns)
 all_chain_at lengths [] k d h = absurd (omega arith)

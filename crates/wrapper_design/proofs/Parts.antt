@@ -9,15 +9,9 @@ use Rattle.std.proofs.lemmas.List.Sums.{sum_by-cons, sum_by-append}
 use Rattle.std.proofs.lemmas.Bool.{cases_Bool, leb-false, false_from_ne_true, leb-true, le-leb, and_parts}
 use Rattle.wrapper_design.specs.Design.{scan_length, put_by_length, sort_by_length, longest_first, put_on_least, put_all_on_least, scan_parts}
 use Rattle.wrapper_design.specs.Loads.{IsFirstLeast}
+use Rattle.common_lemmas.proofs.Lists.{passes_at}
 
 -- ---- tests of all items
-
-list_all-at : {X : Type 0} (p : X → Bool) (xs : List X) → list_all p xs ≡ true → (k : ℕ) (x : X) → slice_get xs k ≡ Some x → p x ≡ true
-list_all-at p [] h k x at = absurd cc
-list_all-at p (y ∷ ys) h zero x at =
-    let same : y ≡ x = cc in
-    ap p (sym same) ∙ (and_parts (p y) (list_all p ys) h).0
-list_all-at p (y ∷ ys) h (suc k) x at = list_all-at p ys (and_parts (p y) (list_all p ys) h).1 k x at
 
 list_all-from : {X : Type 0} (p : X → Bool) (xs : List X) → ((k : ℕ) (x : X) → slice_get xs k ≡ Some x → p x ≡ true) → list_all p xs ≡ true
 list_all-from p [] h = refl
@@ -59,7 +53,7 @@ pub record PutAt (lengths : List ℕ) (c : ℕ) (ss : List (List ℕ)) : Type 0 
 
 below_all : (lengths s : List ℕ) (ss : List (List ℕ)) → list_all (λ r. leb (scan_length lengths s) (scan_length lengths r)) ss ≡ true → (k : ℕ) (q : List ℕ) → slice_get (s ∷ ss) k ≡ Some q → scan_length lengths s ≤ scan_length lengths q
 below_all lengths s ss yes' zero q at = let same : s ≡ q = cc in let e : scan_length lengths s ≡ scan_length lengths q = ap (scan_length lengths) same in omega (arith, e)
-below_all lengths s ss yes' (suc k) q at = leb-true (scan_length lengths s) (scan_length lengths q) (list_all-at (λ r. leb (scan_length lengths s) (scan_length lengths r)) ss yes' k q at)
+below_all lengths s ss yes' (suc k) q at = leb-true (scan_length lengths s) (scan_length lengths q) (passes_at (λ r. leb (scan_length lengths s) (scan_length lengths r)) ss yes' k q at)
 
 put_here : (lengths : List ℕ) (c : ℕ) (s : List ℕ) (ss : List (List ℕ)) → list_all (λ r. leb (scan_length lengths s) (scan_length lengths r)) ss ≡ true → PutAt lengths c (s ∷ ss)
 unfolding put_on_least
@@ -105,7 +99,7 @@ put_first lengths c (s ∷ ss) (suc j) h =
     let less : slice_index (map (scan_length lengths) ss) j < scan_length lengths s = h.first 0 (omega arith) in
     let there : slice_index (map (scan_length lengths) ss) j ≡ scan_length lengths r.0 = get_or_from_slice_get (map (scan_length lengths) ss) j (scan_length lengths r.0) 0 (slice_get-map (scan_length lengths) ss j ∙ ap (option_map (scan_length lengths)) r.1) in
     let fails : list_all (λ t. leb (scan_length lengths s) (scan_length lengths t)) ss ≡ false = false_from_ne_true (list_all (λ t. leb (scan_length lengths s) (scan_length lengths t)) ss) (λ all.
-    let wrong : scan_length lengths s ≤ scan_length lengths r.0 = leb-true (scan_length lengths s) (scan_length lengths r.0) (list_all-at (λ t. leb (scan_length lengths s) (scan_length lengths t)) ss all j r.0 r.1) in omega arith) in
+    let wrong : scan_length lengths s ≤ scan_length lengths r.0 = leb-true (scan_length lengths s) (scan_length lengths r.0) (passes_at (λ t. leb (scan_length lengths s) (scan_length lengths t)) ss all j r.0 r.1) in omega arith) in
     (r.0, r.1, rw fails (ap (λ v. s ∷ v) r.2))
 
 -- ---- all scan chains: what does not depend on where they go

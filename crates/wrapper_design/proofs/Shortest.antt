@@ -11,7 +11,7 @@ use Rattle.std.proofs.lemmas.List.Sorted.{sum_by-IsPermutation}
 use Rattle.plan_model.proofs.Sums.{one_if}
 use Rattle.plan_model.proofs.Sums.{item-le-sum_by, some_passes}
 use Rattle.wrapper_design.specs.Entries.{entry_cmp, entries, HasEntries, Grows}
-use Rattle.wrapper_design.proofs.OneOrder.{not_less}
+use Rattle.common_lemmas.proofs.Numbers.{not_less}
 
 abbrev entry : ℕ → ℕ → Reverse (ℕ × ℕ)
 entry x i = record { 0 = (x, i) }

@@ -1,8 +1,10 @@
 use Rattle.std.proofs.Common.{codes, decimal, [], ◌∷◌, ◌++◌, ◌∙◌, sym, ap, length}
 use Rattle.soc_model.specs.Chips.{module_value}
 use Rattle.soc_printer.specs.SocText.{spaced, name_words, setup_words, terminal_words}
-use Rattle.soc_printer.proofs.Pieces.{join, on_ok, spaced-six}
+use Rattle.soc_printer.proofs.Pieces.{spaced-six}
 use Rattle.soc_printer.proofs.push_module_words.Goals as goal
+use Rattle.common_lemmas.proofs.Lists.{joined_after}
+use Rattle.common_lemmas.proofs.Options.{on_ok}
 
 pub returns : goal.returns
 returns c =
@@ -28,10 +30,10 @@ returns c =
     on_ok c.push_entry-2.result
     (λ e.
     let last = e ∙ ap (λ n. t5 ++ spaced (codes "ScanChains" ∷ decimal n ∷ [])) (c.len.ensures ∙ c.args.module.now.chains.ok.0) in
-    join t0 t1 t6 (spaced number) s2 c.in_ok-push_count.ensures
-    (join t1 t2 t6 (spaced name) s3 named
-    (join t2 t3 t6 (spaced level) s4 c.in_ok-push_entry.ensures
-    (join t3 t4 t6 (spaced terminals) s5 c.in_ok-push_terminals.ensures
-    (join t4 t5 t6 (spaced setup) (spaced chains) c.in_ok-push_setup.ensures last))))
+    joined_after t0 t1 t6 (spaced number) s2 c.in_ok-push_count.ensures
+    (joined_after t1 t2 t6 (spaced name) s3 named
+    (joined_after t2 t3 t6 (spaced level) s4 c.in_ok-push_entry.ensures
+    (joined_after t3 t4 t6 (spaced terminals) s5 c.in_ok-push_terminals.ensures
+    (joined_after t4 t5 t6 (spaced setup) (spaced chains) c.in_ok-push_setup.ensures last))))
     ∙ ap (λ s. t0 ++ s) (sym (spaced-six number name level terminals setup chains)))
     c.push_entry-2.ensures

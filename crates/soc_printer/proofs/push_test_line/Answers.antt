@@ -1,7 +1,9 @@
 use Rattle.std.proofs.Common.{codes, decimal, [], ◌∷◌, ◌++◌, ◌∙◌, sym, ap}
 use Rattle.soc_printer.specs.SocText.{spaced, flag_word}
-use Rattle.soc_printer.proofs.Pieces.{join, on_ok, spaced-six-then}
+use Rattle.soc_printer.proofs.Pieces.{spaced-six-then}
 use Rattle.soc_printer.proofs.push_test_line.Goals as goal
+use Rattle.common_lemmas.proofs.Lists.{joined_after}
+use Rattle.common_lemmas.proofs.Options.{on_ok}
 
 pub returns : goal.returns
 returns c =
@@ -28,12 +30,12 @@ returns c =
     let s3 = spaced test ++ s4 in
     on_ok c.push.result
     (λ e.
-    join t0 t1 t8 (codes "Module") (spaced number ++ s3) c.in_ok-extend.ensures.ok
-    (join t1 t2 t8 (spaced number) s3 c.in_ok-push_count.ensures
-    (join t2 t3 t8 (spaced test) s4 c.in_ok-push_entry.ensures
-    (join t3 t4 t8 (spaced scan) s5 c.in_ok-push_flag.ensures
-    (join t4 t5 t8 (spaced tam) s6 c.in_ok-push_flag-2.ensures
-    (join t5 t6 t8 (spaced patterns) s7 c.in_ok-push_entry-2.ensures
-    (join t6 t7 t8 (spaced power) (10 ∷ []) c.in_ok-push_entry-3.ensures e))))))
+    joined_after t0 t1 t8 (codes "Module") (spaced number ++ s3) c.in_ok-extend.ensures.ok
+    (joined_after t1 t2 t8 (spaced number) s3 c.in_ok-push_count.ensures
+    (joined_after t2 t3 t8 (spaced test) s4 c.in_ok-push_entry.ensures
+    (joined_after t3 t4 t8 (spaced scan) s5 c.in_ok-push_flag.ensures
+    (joined_after t4 t5 t8 (spaced tam) s6 c.in_ok-push_flag-2.ensures
+    (joined_after t5 t6 t8 (spaced patterns) s7 c.in_ok-push_entry-2.ensures
+    (joined_after t6 t7 t8 (spaced power) (10 ∷ []) c.in_ok-push_entry-3.ensures e))))))
     ∙ ap (λ s. t0 ++ (codes "Module" ++ s)) (sym (spaced-six-then number test scan tam patterns power (10 ∷ []))))
     c.push.ensures.ok

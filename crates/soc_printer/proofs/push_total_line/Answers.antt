@@ -1,7 +1,8 @@
 use Rattle.std.proofs.Common.{codes, decimal, [], ◌∷◌, ◌++◌}
 use Rattle.soc_printer.specs.SocText.{spaced}
-use Rattle.soc_printer.proofs.Pieces.{join, on_ok}
 use Rattle.soc_printer.proofs.push_total_line.Goals as goal
+use Rattle.common_lemmas.proofs.Lists.{joined_after}
+use Rattle.common_lemmas.proofs.Options.{on_ok}
 
 pub returns : goal.returns
 returns c =
@@ -11,5 +12,5 @@ returns c =
     let t3 = c.push.new.to.items in
     let number = spaced (decimal c.args.modules ∷ []) in
     on_ok c.push.result
-    (λ e. join t0 t1 t3 (codes "TotalModules") (number ++ 10 ∷ []) c.in_ok-extend.ensures.ok (join t1 t2 t3 number (10 ∷ []) c.in_ok-push_count.ensures e))
+    (λ e. joined_after t0 t1 t3 (codes "TotalModules") (number ++ 10 ∷ []) c.in_ok-extend.ensures.ok (joined_after t1 t2 t3 number (10 ∷ []) c.in_ok-push_count.ensures e))
     c.push.ensures.ok

@@ -1,7 +1,8 @@
 use Rattle.std.proofs.Common.{◌<◌, length, rules, arith}
 use Rattle.arch_search.specs.declared.sorting.Keyed.{Keyed}
-use Rattle.arch_search.proofs.Written.{set_more, set_all}
+use Rattle.arch_search.proofs.Written.{set_more}
 use Rattle.arch_search.proofs.room.key_by_chains.Goals as goal
+use Rattle.common_lemmas.proofs.Lists.{all_whole}
 
 pub loop-place-preserved : goal.loop-place-preserved
 loop-place-preserved c =
@@ -12,4 +13,4 @@ loop-place-preserved c =
     }
 
 pub returns-clause-places : goal.returns-clause-places
-returns-clause-places c = set_all (λ (k : Keyed). k.place < length c.args.chains.now) c.loop-place.keys c.loop-place.place (omega (arith, c.loop-place-test.false)) c.loop-place.invariant.done
+returns-clause-places c = all_whole (λ (k : Keyed). k.place < length c.args.chains.now) c.loop-place.keys c.loop-place.place (omega (arith, c.loop-place-test.false)) c.loop-place.invariant.done

@@ -1,6 +1,7 @@
 use Rattle.std.proofs.Common.{◌<◌, length, rules, arith}
-use Rattle.arch_search.proofs.Written.{set_more, set_all}
+use Rattle.arch_search.proofs.Written.{set_more}
 use Rattle.arch_search.proofs.room.write_places.Goals as goal
+use Rattle.common_lemmas.proofs.Lists.{all_whole}
 
 pub loop-place-preserved : goal.loop-place-preserved
 loop-place-preserved c =
@@ -11,4 +12,4 @@ loop-place-preserved c =
     }
 
 pub returns-clause-places : goal.returns-clause-places
-returns-clause-places c = λ n all. set_all (λ place. place < n) c.loop-place.order c.loop-place.place (omega (arith, c.loop-place-test.false)) (c.loop-place.invariant.done n all)
+returns-clause-places c = λ n all. all_whole (λ place. place < n) c.loop-place.order c.loop-place.place (omega (arith, c.loop-place-test.false)) (c.loop-place.invariant.done n all)

@@ -1,8 +1,8 @@
 use Rattle.std.proofs.Common.{◌∙◌, ap, map, List, ℕ}
-use Rattle.bit_machine.proofs.Numbering.{map_append}
 use Rattle.plan_model.specs.Views.{chain_value}
 use Rattle.bit_machine.proofs.Layouts.{mapped_more}
 use Rattle.bit_machine.proofs.layout.copy_of.Goals as goal
+use Rattle.common_lemmas.proofs.Lists.{map_append}
 
 pub loop-chain-preserved : goal.loop-chain-preserved
 loop-chain-preserved c =

@@ -1,7 +1,7 @@
 use Rattle.std.proofs.Common.{get_or, false, arith}
 use Rattle.bit_machine.proofs.Steps.{put_more}
-use Rattle.bit_machine.proofs.PathBits.{any_default}
 use Rattle.bit_machine.proofs.layout.put_bits.Goals as goal
+use Rattle.common_lemmas.proofs.Lists.{any_default}
 
 pub overflow_add-at : goal.overflow_add-at
 overflow_add-at c = omega (arith, c.len-cells.ensures, c.len-cells.type_inv, c.requires, c.loop-place-test.true)

@@ -1,8 +1,8 @@
 use Rattle.std.proofs.Common.{◌<◌, length, arith}
 use Rattle.std.proofs.lemmas.Option.{slice_get_within}
-use Rattle.bit_machine.proofs.LaneSteps.{slice_at}
 use Rattle.bit_machine.proofs.Assigning.{sooner_more}
 use Rattle.bit_machine.proofs.machine.next_change.Goals as goal
+use Rattle.common_lemmas.proofs.Lists.{slice_at}
 
 pub loop-stepped-preserved : goal.loop-stepped-preserved
 loop-stepped-preserved c =

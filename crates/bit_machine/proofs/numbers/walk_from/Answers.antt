@@ -1,7 +1,7 @@
 use Rattle.std.proofs.Common.{get_or, arith}
-use Rattle.bit_machine.proofs.PathBits.{any_default}
 use Rattle.bit_machine.proofs.Walks.{nothing, walk_begun, reached_next}
 use Rattle.bit_machine.proofs.numbers.walk_from.Goals as goal
+use Rattle.common_lemmas.proofs.Lists.{any_default}
 
 pub returns-then-before-count : goal.returns-then-before-count
 returns-then-before-count g c =

@@ -1,7 +1,7 @@
 use Rattle.std.proofs.Common.{arith}
-use Rattle.bit_machine.proofs.LaneSteps.{slice_at}
 use Rattle.bit_machine.proofs.ShiftStretches.{no_chains, chain_more}
 use Rattle.bit_machine.proofs.stretches.put_chains.Goals as goal
+use Rattle.common_lemmas.proofs.Lists.{slice_at}
 
 pub loop-chain-init : goal.loop-chain-init
 loop-chain-init g c = no_chains (g.C.Contents.drive c.args.contents.now c.args.lane.now.key) (g.C.Contents.mark c.args.contents.now c.args.lane.now.key) c.args.lane.now.paths.items c.args.wires c.args.row c.args.stretch.count c.args.lane.now.first_wire c.args.stretch.ahead c.args.stretch.behind c.args.text.now

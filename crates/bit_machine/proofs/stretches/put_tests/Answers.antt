@@ -1,8 +1,8 @@
 use Rattle.std.proofs.Common.{◌+◌, ◌∙◌, refl, arith}
 use Rattle.bit_machine.specs.Lanes.{IsFilled}
-use Rattle.bit_machine.proofs.LaneSteps.{slice_at}
 use Rattle.bit_machine.proofs.LinesOfTests.{line_first, line_more, line_all, lane_has, some_lane_at}
 use Rattle.bit_machine.proofs.stretches.put_tests.Goals as goal
+use Rattle.common_lemmas.proofs.Lists.{slice_at}
 
 pub loop-place-init : goal.loop-place-init
 loop-place-init g c = record {

@@ -4,30 +4,31 @@ use Rattle.std.proofs.lemmas.Option.{same_Some}
 use Rattle.soc_model.specs.declared.Test.{Test}
 use Rattle.soc_model.specs.Chips.{is_live, live_tests, module_value}
 use Rattle.bus_proofs.specs.Bases.{chip_of}
-use Rattle.bus_proofs.proofs.LeafTests.{some_at, own_core, own_test, own_live, own_work, place_within, test_within, kind_is, kind_not, idle_costs}
+use Rattle.bus_proofs.proofs.LeafTests.{own_core, own_test, own_live, own_work, place_within, test_within, kind_is, kind_not, idle_costs}
 use Rattle.bus_proofs.proofs.leaf_costs.kind_cost.Goals as goal
+use Rattle.common_lemmas.proofs.Lists.{some_item}
 
 pub module_at-requires : goal.module_at-requires
 module_at-requires c =
-    let l = some_at (live_tests (chip_of c.args.basis.now)) c.args.test c.requires.test in
+    let l = some_item (live_tests (chip_of c.args.basis.now)) c.args.test c.requires.test in
     let is = c.requires.basis.tests.tests.at c.args.test l.0 c.place_at-place.result l.1 c.place_at-place.ensures in
     place_within (chip_of c.args.basis.now) c.args.basis.now.limits.now l.0 c.place_at-place.result is
 
 pub test_at-own-requires : goal.test_at-own-requires
 test_at-own-requires c =
-    let l = some_at (live_tests (chip_of c.args.basis.now)) c.args.test c.requires.test in
+    let l = some_item (live_tests (chip_of c.args.basis.now)) c.args.test c.requires.test in
     let is = c.requires.basis.tests.tests.at c.args.test l.0 c.place_at-place.result l.1 c.place_at-place.ensures in
     test_within (chip_of c.args.basis.now) c.args.basis.now.limits.now l.0 c.place_at-place.result (module_value c.module_at.result.now) is c.module_at.ensures
 
 pub test_time-cycles-requires-clause-place : goal.test_time-cycles-requires-clause-place
 test_time-cycles-requires-clause-place c =
-    let l = some_at (live_tests (chip_of c.args.basis.now)) c.args.test c.requires.test in
+    let l = some_item (live_tests (chip_of c.args.basis.now)) c.args.test c.requires.test in
     let is = c.requires.basis.tests.tests.at c.args.test l.0 c.place_at-place.result l.1 c.place_at-place.ensures in
     rw c.requires.basis.times (place_within (chip_of c.args.basis.now) c.args.basis.now.limits.now l.0 c.place_at-place.result is)
 
 pub test_time-cycles-requires-clause-live : goal.test_time-cycles-requires-clause-live
 test_time-cycles-requires-clause-live c =
-    let l = some_at (live_tests (chip_of c.args.basis.now)) c.args.test c.requires.test in
+    let l = some_item (live_tests (chip_of c.args.basis.now)) c.args.test c.requires.test in
     let is = c.requires.basis.tests.tests.at c.args.test l.0 c.place_at-place.result l.1 c.place_at-place.ensures in
     let live = own_live (chip_of c.args.basis.now) c.args.test l.0 l.1 in
     let own = own_test (chip_of c.args.basis.now) c.args.basis.now.limits.now l.0 c.place_at-place.result (module_value c.module_at.result.now) c.test_at-own.result is c.module_at.ensures c.test_at-own.ensures in
@@ -37,14 +38,14 @@ test_time-cycles-requires-clause-live c =
 pub test_time-cycles-requires-clause-work : goal.test_time-cycles-requires-clause-work
 test_time-cycles-requires-clause-work c = λ m at.
     let at' = rw c.requires.basis.times at at in
-    let l = some_at (live_tests (chip_of c.args.basis.now)) c.args.test c.requires.test in
+    let l = some_item (live_tests (chip_of c.args.basis.now)) c.args.test c.requires.test in
     let is = c.requires.basis.tests.tests.at c.args.test l.0 c.place_at-place.result l.1 c.place_at-place.ensures in
     let same : module_value c.module_at.result.now ≡ m = same_Some (module_value c.module_at.result.now) m (sym c.module_at.ensures ∙ at') in
     rw (← same) (own_work (chip_of c.args.basis.now) c.args.basis.now.limits.now c.args.test l.0 c.place_at-place.result (module_value c.module_at.result.now) c.test_at-own.result c.requires.basis.sound l.1 is c.module_at.ensures c.test_at-own.ensures)
 
 pub test_uses-requires-clause-test : goal.test_uses-requires-clause-test
 test_uses-requires-clause-test c =
-    let l = some_at (live_tests (chip_of c.args.basis.now)) c.args.test c.requires.test in
+    let l = some_item (live_tests (chip_of c.args.basis.now)) c.args.test c.requires.test in
     let is = c.requires.basis.tests.tests.at c.args.test l.0 c.place_at-place.result l.1 c.place_at-place.ensures in
     let own = own_test (chip_of c.args.basis.now) c.args.basis.now.limits.now l.0 c.place_at-place.result (module_value c.module_at.result.now) c.test_at-own.result is c.module_at.ensures c.test_at-own.ensures in
     (l.0, l.1, ap (λ (t : Test). t.power) (sym own))

@@ -1,7 +1,8 @@
 use Rattle.std.proofs.Common.{◌+◌, arith}
 use Rattle.bus_proofs.specs.Bases.{chip_of}
-use Rattle.bus_proofs.proofs.LeafTests.{some_at, starts_long, start_is, before_grows, before_within, module_uses}
+use Rattle.bus_proofs.proofs.LeafTests.{starts_long, start_is, before_grows, before_within, module_uses}
 use Rattle.bus_proofs.proofs.leaf_costs.module_cost.Goals as goal
+use Rattle.common_lemmas.proofs.Lists.{some_item}
 
 pub start_at-from-requires : goal.start_at-from-requires
 start_at-from-requires c = omega (arith, starts_long (chip_of c.args.basis.now) c.args.basis.now.limits.now c.args.basis.now.tests c.requires.basis.tests, c.requires.place)
@@ -11,7 +12,7 @@ start_at-to-requires c = omega (arith, starts_long (chip_of c.args.basis.now) c.
 
 pub costs_between-requires-clause-from : goal.costs_between-requires-clause-from
 costs_between-requires-clause-from c =
-    let m = some_at (chip_of c.args.basis.now).modules c.args.place c.requires.place in
+    let m = some_item (chip_of c.args.basis.now).modules c.args.place c.requires.place in
     let from = start_is (chip_of c.args.basis.now) c.args.basis.now.limits.now c.args.basis.now.tests c.args.place c.start_at-from.result c.requires.basis.tests c.start_at-from.ensures in
     let to = start_is (chip_of c.args.basis.now) c.args.basis.now.limits.now c.args.basis.now.tests (c.args.place + 1) c.start_at-to.result c.requires.basis.tests c.start_at-to.ensures in
     omega (arith, from, to, before_grows (chip_of c.args.basis.now) c.args.place m.0 m.1)
@@ -23,7 +24,7 @@ costs_between-requires-clause-to c =
 
 pub returns-clause-cost : goal.returns-clause-cost
 returns-clause-cost c = λ weights weighed.
-    let m = some_at (chip_of c.args.basis.now).modules c.args.place c.requires.place in
+    let m = some_item (chip_of c.args.basis.now).modules c.args.place c.requires.place in
     let from = start_is (chip_of c.args.basis.now) c.args.basis.now.limits.now c.args.basis.now.tests c.args.place c.start_at-from.result c.requires.basis.tests c.start_at-from.ensures in
     let to = start_is (chip_of c.args.basis.now) c.args.basis.now.limits.now c.args.basis.now.tests (c.args.place + 1) c.start_at-to.result c.requires.basis.tests c.start_at-to.ensures in
     let time = rw c.requires.basis.times at c.tam_time-time.ensures.time in

@@ -1,6 +1,7 @@
 use Rattle.std.proofs.Common.{◌+◌, ◌-◌, length, arith}
-use Rattle.control_rows.proofs.Marking.{put_to_start, put_to_end, rows-le, spell_more}
+use Rattle.control_rows.proofs.Marking.{put_to_start, put_to_end, spell_more}
 use Rattle.control_rows.proofs.columns.put_operations.Goals as goal
+use Rattle.common_lemmas.proofs.Numbers.{block_fits}
 
 pub loop-cycle-init : goal.loop-cycle-init
 loop-cycle-init c = put_to_start c.args.own c.args.test.now c.args.columns c.args.from c.args.count c.max-cycle.result c.args.text.now c.max-cycle.ensures
@@ -21,7 +22,7 @@ pub put_action-requires-clause-rows : goal.put_action-requires-clause-rows
 put_action-requires-clause-rows c =
     let long = c.loop-cycle.invariant.long in
     let on = c.loop-cycle.invariant.on in
-    let room = rows-le (c.loop-cycle.cycle - c.args.from + c.min-going.result) c.args.count c.args.columns (length c.args.text.now) (omega (arith, on, c.min-going.ensures, c.min-end.ensures, c.loop-cycle-test.true)) c.requires.rows in
+    let room = block_fits (c.loop-cycle.cycle - c.args.from + c.min-going.result) c.args.count c.args.columns (length c.args.text.now) (omega (arith, on, c.min-going.ensures, c.min-end.ensures, c.loop-cycle-test.true)) c.requires.rows in
     omega (arith, room, long)
 
 pub loop-cycle-preserved : goal.loop-cycle-preserved

@@ -1,8 +1,9 @@
 use Rattle.std.proofs.Common.{◌++◌, take, arith}
 use Rattle.soc_model.specs.Chips.{soc_value, module_value}
 use Rattle.fail_locate.specs.Wired.{placed_tests}
-use Rattle.fail_locate.proofs.KeptTests.{next_test, all_tests, no_tests, slice_at}
+use Rattle.fail_locate.proofs.KeptTests.{next_test, all_tests, no_tests}
 use Rattle.fail_locate.proofs.wired.push_module.Goals as goal
+use Rattle.common_lemmas.proofs.Lists.{slice_at}
 
 pub loop-at-init : goal.loop-at-init
 loop-at-init c = λ done are. no_tests (soc_value c.args.chip.now.soc.now) c.args.chip.now.index.now done c.args.tests.now.items are

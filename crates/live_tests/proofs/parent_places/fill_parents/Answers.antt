@@ -2,8 +2,9 @@ use Rattle.std.proofs.Common.{arith, ◌∙◌, inl, inr}
 use Rattle.std.proofs.lemmas.Bool.{cases_eq}
 use Rattle.soc_model.specs.Chips.{soc_value}
 use Rattle.live_tests.specs.Parents.{HasParentAt}
-use Rattle.live_tests.proofs.WrittenParents.{set_here, set_else}
+use Rattle.live_tests.proofs.WrittenParents.{set_else}
 use Rattle.live_tests.proofs.parent_places.fill_parents.Goals as goal
+use Rattle.common_lemmas.proofs.Lists.{set_here}
 
 pub loop-place-preserved : goal.loop-place-preserved
 loop-place-preserved c = λ p less. elim (cases_eq p c.loop-place.place) [

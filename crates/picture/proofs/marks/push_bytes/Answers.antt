@@ -1,6 +1,6 @@
 use Rattle.picture.specs.Marks.{escaped}
-use Rattle.picture.proofs.Joining.{flat_more}
 use Rattle.picture.proofs.marks.push_bytes.Goals as goal
+use Rattle.common_lemmas.proofs.Lists.{flat_more}
 
 pub loop-byte-preserved : goal.loop-byte-preserved
 loop-byte-preserved c =

@@ -2,8 +2,8 @@ use Rattle.std.proofs.Common.{subst, sym}
 use Rattle.soc_model.specs.Chips.{soc_value}
 use Rattle.picture.specs.Fills.{AreStarts}
 use Rattle.picture.specs.Marks.{test_text}
-use Rattle.picture.proofs.Joining.{flat_more}
 use Rattle.picture.proofs.marks.push_tests.Goals as goal
+use Rattle.common_lemmas.proofs.Lists.{flat_more}
 
 pub loop-one-preserved : goal.loop-one-preserved
 loop-one-preserved c =

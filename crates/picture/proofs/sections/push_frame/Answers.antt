@@ -2,8 +2,8 @@ use Rattle.std.proofs.Common.{◌++◌}
 use Rattle.std.specs.Prelude.{codes, decimal}
 use Rattle.std.proofs.lemmas.Result.{on_ok_weaker}
 use Rattle.picture.specs.PictureText.{frame_text}
-use Rattle.picture.proofs.Joining.{behind}
 use Rattle.picture.proofs.sections.push_frame.Goals as goal
+use Rattle.common_lemmas.proofs.Lists.{joined_before}
 
 pub returns : goal.returns
 unfolding frame_text
@@ -13,4 +13,4 @@ returns c =
     let t2 = c.push_entry-2.new.text.items in
     let t3 = c.extend.new.to.items in
     let p = c.args.panel.now in
-    on_ok_weaker c.extend.result (λ pushed. rw (← c.from.ensures) (behind t3 t1 t0 (codes "<rect class='w' x='120' y='40' width='1000' height='" ++ decimal c.from.result) (codes "'><title>wires " ++ decimal p.rows ++ (codes "</title></rect>\n")) (behind t3 t2 t1 (codes "'><title>wires " ++ decimal p.rows) (codes "</title></rect>\n") (pushed) c.in_ok-push_entry-2.ensures) c.in_ok-push_entry.ensures)) c.extend.ensures.ok
+    on_ok_weaker c.extend.result (λ pushed. rw (← c.from.ensures) (joined_before t3 t1 t0 (codes "<rect class='w' x='120' y='40' width='1000' height='" ++ decimal c.from.result) (codes "'><title>wires " ++ decimal p.rows ++ (codes "</title></rect>\n")) (joined_before t3 t2 t1 (codes "'><title>wires " ++ decimal p.rows) (codes "</title></rect>\n") (pushed) c.in_ok-push_entry-2.ensures) c.in_ok-push_entry.ensures)) c.extend.ensures.ok

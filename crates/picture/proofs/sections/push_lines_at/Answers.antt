@@ -3,8 +3,8 @@ use Rattle.std.specs.Prelude.{codes, decimal}
 use Rattle.std.proofs.lemmas.Result.{on_ok_weaker}
 use Rattle.picture.specs.PictureText.{bound_text, lines_at}
 use Rattle.picture.specs.Marks.{label_at, label_end}
-use Rattle.picture.proofs.Joining.{behind}
 use Rattle.picture.proofs.sections.push_lines_at.Goals as goal
+use Rattle.common_lemmas.proofs.Lists.{joined_before}
 
 pub returns : goal.returns
 unfolding lines_at
@@ -18,4 +18,4 @@ returns c =
     let t6 = c.push_entry-4.new.text.items in
     let t7 = c.end_label.new.text.items in
     let t8 = c.push_bound.new.text.items in
-    on_ok_weaker c.push_bound.result (λ pushed. behind t8 t1 t0 (codes "<path class='l' d='M1120 16V" ++ decimal c.args.bottom) (codes "M" ++ decimal c.args.x ++ (codes " 32V" ++ decimal c.args.bottom ++ (codes "'/>\n" ++ (label_at (codes "e") 1116 16 ++ (codes "cycles " ++ decimal c.args.cycles ++ (label_end ++ (bound_text c.args.x c.args.mark))))))) (behind t8 t2 t1 (codes "M" ++ decimal c.args.x) (codes " 32V" ++ decimal c.args.bottom ++ (codes "'/>\n" ++ (label_at (codes "e") 1116 16 ++ (codes "cycles " ++ decimal c.args.cycles ++ (label_end ++ (bound_text c.args.x c.args.mark)))))) (behind t8 t3 t2 (codes " 32V" ++ decimal c.args.bottom) (codes "'/>\n" ++ (label_at (codes "e") 1116 16 ++ (codes "cycles " ++ decimal c.args.cycles ++ (label_end ++ (bound_text c.args.x c.args.mark))))) (behind t8 t4 t3 (codes "'/>\n") (label_at (codes "e") 1116 16 ++ (codes "cycles " ++ decimal c.args.cycles ++ (label_end ++ (bound_text c.args.x c.args.mark)))) (behind t8 t5 t4 (label_at (codes "e") 1116 16) (codes "cycles " ++ decimal c.args.cycles ++ (label_end ++ (bound_text c.args.x c.args.mark))) (behind t8 t6 t5 (codes "cycles " ++ decimal c.args.cycles) (label_end ++ (bound_text c.args.x c.args.mark)) (behind t8 t7 t6 (label_end) (bound_text c.args.x c.args.mark) (pushed) c.in_ok-end_label.ensures) c.in_ok-push_entry-4.ensures) c.in_ok-push_label.ensures) c.in_ok-extend.ensures.ok) c.in_ok-push_entry-3.ensures) c.in_ok-push_entry-2.ensures) c.in_ok-push_entry.ensures) c.push_bound.ensures
+    on_ok_weaker c.push_bound.result (λ pushed. joined_before t8 t1 t0 (codes "<path class='l' d='M1120 16V" ++ decimal c.args.bottom) (codes "M" ++ decimal c.args.x ++ (codes " 32V" ++ decimal c.args.bottom ++ (codes "'/>\n" ++ (label_at (codes "e") 1116 16 ++ (codes "cycles " ++ decimal c.args.cycles ++ (label_end ++ (bound_text c.args.x c.args.mark))))))) (joined_before t8 t2 t1 (codes "M" ++ decimal c.args.x) (codes " 32V" ++ decimal c.args.bottom ++ (codes "'/>\n" ++ (label_at (codes "e") 1116 16 ++ (codes "cycles " ++ decimal c.args.cycles ++ (label_end ++ (bound_text c.args.x c.args.mark)))))) (joined_before t8 t3 t2 (codes " 32V" ++ decimal c.args.bottom) (codes "'/>\n" ++ (label_at (codes "e") 1116 16 ++ (codes "cycles " ++ decimal c.args.cycles ++ (label_end ++ (bound_text c.args.x c.args.mark))))) (joined_before t8 t4 t3 (codes "'/>\n") (label_at (codes "e") 1116 16 ++ (codes "cycles " ++ decimal c.args.cycles ++ (label_end ++ (bound_text c.args.x c.args.mark)))) (joined_before t8 t5 t4 (label_at (codes "e") 1116 16) (codes "cycles " ++ decimal c.args.cycles ++ (label_end ++ (bound_text c.args.x c.args.mark))) (joined_before t8 t6 t5 (codes "cycles " ++ decimal c.args.cycles) (label_end ++ (bound_text c.args.x c.args.mark)) (joined_before t8 t7 t6 (label_end) (bound_text c.args.x c.args.mark) (pushed) c.in_ok-end_label.ensures) c.in_ok-push_entry-4.ensures) c.in_ok-push_label.ensures) c.in_ok-extend.ensures.ok) c.in_ok-push_entry-3.ensures) c.in_ok-push_entry-2.ensures) c.in_ok-push_entry.ensures) c.push_bound.ensures

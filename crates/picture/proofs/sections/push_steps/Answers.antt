@@ -1,6 +1,6 @@
 use Rattle.picture.specs.PictureText.{step_text}
-use Rattle.picture.proofs.Joining.{flat_more}
 use Rattle.picture.proofs.sections.push_steps.Goals as goal
+use Rattle.common_lemmas.proofs.Lists.{flat_more}
 
 pub loop-step-preserved : goal.loop-step-preserved
 loop-step-preserved c =

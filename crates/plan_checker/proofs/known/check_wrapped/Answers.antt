@@ -4,8 +4,9 @@ use Rattle.soc_model.specs.Chips.{soc_value}
 use Rattle.plan_model.specs.Views.{wrapper_value}
 use Rattle.plan_model.specs.Rules.{HasProperCells}
 use Rattle.plan_model.proofs.FirstBreaches.{each_more, each_all, first_here}
-use Rattle.plan_checker.proofs.Rooms.{map_at, length_values}
+use Rattle.plan_checker.proofs.Rooms.{length_values}
 use Rattle.plan_checker.proofs.known.check_wrapped.Goals as goal
+use Rattle.common_lemmas.proofs.Lists.{map_at}
 
 pub returns-then-not-cells_fit : goal.returns-then-not-cells_fit
 returns-then-not-cells_fit c = λ limits plan wrappers.

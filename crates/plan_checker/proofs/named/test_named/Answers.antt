@@ -3,8 +3,9 @@ use Rattle.std.proofs.lemmas.Option.{slice_get_within}
 use Rattle.live_tests.specs.declared.placed.PlacedTest.{PlacedTest}
 use Rattle.plan_checker.specs.Named.{names_of}
 use Rattle.plan_checker.proofs.Finding.{some_same}
-use Rattle.plan_checker.proofs.Rooms.{length_values, map_at}
+use Rattle.plan_checker.proofs.Rooms.{length_values}
 use Rattle.plan_checker.proofs.named.test_named.Goals as goal
+use Rattle.common_lemmas.proofs.Lists.{map_at}
 
 pub test_at-requires : goal.test_at-requires
 test_at-requires c = omega (arith, length_values (λ (j : PlacedTest). j.id) c.args.placed.now, slice_get_within (names_of c.args.placed.now) c.in-Some.place c.args.id (rw c.requires at c.in-Some.ensures.found))

@@ -6,10 +6,11 @@ use Rattle.std.proofs.lemmas.Option.{slice_get_read}
 use Rattle.soc_model.specs.Chips.{soc_value}
 use Rattle.plan_model.specs.Views.{bus_value}
 use Rattle.soc_model.specs.Chips.{numbers}
-use Rattle.plan_checker.proofs.Rooms.{map_at, length_values}
+use Rattle.plan_checker.proofs.Rooms.{length_values}
 use Rattle.plan_checker.proofs.Breaking.{if_none}
 use Rattle.plan_checker.proofs.Marking.{marks_bound, double_first, still_new, marked_more, known_on, marked_all}
 use Rattle.plan_checker.proofs.places.listed_twice.Goals as goal
+use Rattle.common_lemmas.proofs.Lists.{map_at}
 
 pub list_bus-double-requires-clause-known : goal.list_bus-double-requires-clause-known
 list_bus-double-requires-clause-known c =

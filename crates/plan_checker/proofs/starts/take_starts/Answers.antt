@@ -6,9 +6,9 @@ use Rattle.indexmap.specs.IndexSet.{keys}
 use Rattle.soc_model.specs.declared.TestId.{TestId}
 use Rattle.plan_checker.specs.Starting.{AreStarts, IsOnce}
 use Rattle.plan_model.proofs.FirstBreaches.{each_more, each_all, first_here}
-use Rattle.plan_checker.proofs.Finding.{contains_from}
 use Rattle.plan_checker.proofs.Starting.{is_key, no_key, key_has, starts_more, front_early}
 use Rattle.plan_checker.proofs.starts.take_starts.Goals as goal
+use Rattle.common_lemmas.proofs.Lists.{contains_from}
 
 none : TestId × ℕ
 none = (record { «module» = 0; test = 0 }, 0)

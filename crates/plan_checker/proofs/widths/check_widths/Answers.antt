@@ -7,9 +7,9 @@ use Rattle.plan_model.specs.Views.{bus_value}
 use Rattle.plan_model.specs.Rules.{FitsWires}
 use Rattle.plan_checker.specs.Wires.{FitsIn}
 use Rattle.plan_model.proofs.FirstBreaches.{each_more, each_all, first_here}
-use Rattle.plan_checker.proofs.Rooms.{map_at}
 use Rattle.plan_checker.proofs.widths.check_widths.Goals as goal
 use Rattle.plan_checker.proofs.widths.check_widths.Goals.{then-bus-eq0-via-then-bus-eq0, then-bus-eq0-via-else-bus-eq0+then-bus-left}
+use Rattle.common_lemmas.proofs.Lists.{map_at}
 
 length_values : {X Y : Type 0} (f : X → Y) (xs : List X) → length (map f xs) ≡ length xs
 length_values f [] = refl

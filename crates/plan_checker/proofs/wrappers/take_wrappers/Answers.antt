@@ -7,9 +7,10 @@ use Rattle.soc_model.specs.Chips.{soc_value}
 use Rattle.plan_model.specs.Views.{plan_value, wrapper_value}
 use Rattle.plan_model.specs.Rules.{IsFitting, used_pairs, pair_of}
 use Rattle.plan_model.proofs.FirstBreaches.{EachTo, each_more, each_all, first_here}
-use Rattle.plan_checker.proofs.Rooms.{map_at, length_values, new_fit}
+use Rattle.plan_checker.proofs.Rooms.{length_values, new_fit}
 use Rattle.plan_checker.proofs.Pairing.{paired, not_paired, pairs_more}
 use Rattle.plan_checker.proofs.wrappers.take_wrappers.Goals as goal
+use Rattle.common_lemmas.proofs.Lists.{map_at}
 
 pub returns-then-not-is_used-clause-first : goal.returns-then-not-is_used-clause-first
 returns-then-not-is_used-clause-first c =

@@ -2,8 +2,8 @@ use Rattle.std.proofs.Common.{◌≡◌, ℕ, ◌≤◌, ◌⊎◌, inl, inr, No
 use Rattle.std.specs.Prelude.{slice_index_or, unwrap_or}
 use Rattle.std.specs.List.{Contains}
 use Rattle.std.proofs.lemmas.List.Elements.{All-more, All-weaker, Contains-get_or}
-use Rattle.resource_table.proofs.Places.{all_whole}
 use Rattle.resource_table.proofs.table.latest_end.Goals as goal
+use Rattle.common_lemmas.proofs.Lists.{all_whole}
 
 pub loop-test-preserved : goal.loop-test-preserved
 loop-test-preserved c =

@@ -3,9 +3,9 @@ use Rattle.std.specs.Prelude.{slice_get}
 use Rattle.std.proofs.lemmas.Bool.{cases_lt}
 use Rattle.std.proofs.lemmas.Option.{slice_get_within, get_or_from_slice_get}
 use Rattle.resource_table.specs.declared.timelines.Span.{Span}
-use Rattle.resource_table.proofs.Places.{same_item}
 use Rattle.resource_table.proofs.Spans.{same_time}
 use Rattle.resource_table.proofs.timelines.place_of.Goals as goal
+use Rattle.common_lemmas.proofs.Lists.{any_default}
 
 pub returns : goal.returns
 returns c =
@@ -14,7 +14,7 @@ returns c =
     let there = c.loop-place.invariant.there in
     let read : Span = get_or spans place (record { from = 0; to = 0 }) in
     let within : place < length spans = (let le = there.1 in omega (arith, le, slice_get_within spans there.0 c.args.span there.2)) in
-    same_time spans c.args.span read place there.0 c.requires.ordered c.loop-place.invariant.late there.1 there.2 (same_item spans place (record { from = 0; to = 0 }) read within) c.loop-place-test.false
+    same_time spans c.args.span read place there.0 c.requires.ordered c.loop-place.invariant.late there.1 there.2 (any_default spans place (record { from = 0; to = 0 }) read within) c.loop-place-test.false
 
 -- a time that ends otherwise than the one at a place stands behind it
 behind : (spans : List Span) (place at : ℕ) (span : Span) → place ≤ at → slice_get spans at ≡ Some span → ((get_or spans place (record { from = 0; to = 0 })).to ≡ span.to → ⊥) → place + 1 ≤ at

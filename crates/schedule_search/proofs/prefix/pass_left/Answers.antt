@@ -9,10 +9,10 @@ use Rattle.resource_table.specs.Jobs.{job_value}
 use Rattle.schedule_search.specs.Walks.{is_in}
 use Rattle.schedule_search.specs.Prefixes.{outside, IsPlaceOf}
 use Rattle.schedule_search.proofs.Outside.{insert_removed, outside_at, passing_order}
-use Rattle.schedule_search.proofs.Predecessors.{any_default}
 use Rattle.schedule_search.proofs.Sorting.{place_there}
 use Rattle.schedule_search.proofs.Stepping.{next_out}
 use Rattle.schedule_search.proofs.prefix.pass_left.Goals as goal
+use Rattle.common_lemmas.proofs.Lists.{any_default}
 
 pub put_for-requires : goal.put_for-requires
 put_for-requires c =

@@ -2,8 +2,9 @@ use Rattle.std.proofs.Common.{◌≡◌, ◌∙◌, ◌+◌, ◌++◌, ◌∷◌
 use Rattle.std.specs.List.{range_with_len}
 use Rattle.std.proofs.lemmas.List.{length-map}
 use Rattle.resource_table.specs.Jobs.{job_value, test_value}
-use Rattle.schedule_search.proofs.Turns.{turn_at, range_push, order_from_sort}
+use Rattle.schedule_search.proofs.Turns.{turn_at, order_from_sort}
 use Rattle.schedule_search.proofs.tries.sorted_turns.Goals as goal
+use Rattle.common_lemmas.proofs.Ranges.{range_push}
 
 pub loop-place-preserved : goal.loop-place-preserved
 loop-place-preserved c =

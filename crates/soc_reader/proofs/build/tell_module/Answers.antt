@@ -3,8 +3,9 @@ use Rattle.soc_reader.specs.declared.keys.Subject.TheVariants.{OfModule}
 use Rattle.soc_reader.specs.Table.{entry}
 use Rattle.soc_reader.specs.Views.{value_of}
 use Rattle.soc_reader.specs.Meaning.{tells}
-use Rattle.soc_reader.proofs.Places.{soc-changed, on_ok, indexed-at, indexed-set, index-within}
+use Rattle.soc_reader.proofs.Places.{soc-changed, indexed-at, indexed-set, index-within}
 use Rattle.soc_reader.proofs.build.tell_module.Goals as goal
+use Rattle.common_lemmas.proofs.Options.{on_ok}
 
 pub give_module-requires : goal.give_module-requires
 give_module-requires c =

@@ -1,9 +1,9 @@
 use Rattle.std.proofs.Common.{ℕ, List, ◌++◌, codes}
 use Rattle.std.proofs.lemmas.Result.{on_ok_weaker}
-use Rattle.form_pieces.proofs.Texts.{behind}
 use Rattle.form_pieces.specs.Pieces.{where_some}
 use Rattle.stil_text.specs.StilText.{control_group, groups, wire_groups}
 use Rattle.stil_text.proofs.head.push_groups.Goals as goal
+use Rattle.common_lemmas.proofs.Lists.{joined_before}
 
 pub returns : goal.returns
 unfolding groups
@@ -17,4 +17,4 @@ returns c =
     let p2 : List ℕ = where_some c.args.wires (wire_groups c.args.wires) in
     let p3 : List ℕ = control_group c.args.controls.now in
     let p4 : List ℕ = codes "}\nTiming plan {\n" in
-    on_ok_weaker c.extend-2.result (λ pushed. behind t4 t1 t0 p1 (p2 ++ (p3 ++ p4)) (behind t4 t2 t1 p2 (p3 ++ p4) (behind t4 t3 t2 p3 p4 pushed c.in_ok-push_control_group.ensures) c.in_ok-push_wire_groups.ensures) c.in_ok-extend.ensures.ok) c.extend-2.ensures.ok
+    on_ok_weaker c.extend-2.result (λ pushed. joined_before t4 t1 t0 p1 (p2 ++ (p3 ++ p4)) (joined_before t4 t2 t1 p2 (p3 ++ p4) (joined_before t4 t3 t2 p3 p4 pushed c.in_ok-push_control_group.ensures) c.in_ok-push_wire_groups.ensures) c.in_ok-extend.ensures.ok) c.extend-2.ensures.ok

@@ -1,9 +1,9 @@
 use Rattle.std.proofs.Common.{ℕ, List, ◌++◌}
 use Rattle.std.proofs.lemmas.Result.{on_ok_weaker}
-use Rattle.form_pieces.proofs.Texts.{behind}
 use Rattle.form_pieces.specs.Pieces.{where_some}
 use Rattle.stil_text.specs.StilText.{clock_waveform, control_waveform, waveforms, waveforms_end, wire_waveforms}
 use Rattle.stil_text.proofs.head.push_waveforms.Goals as goal
+use Rattle.common_lemmas.proofs.Lists.{joined_before}
 
 pub returns : goal.returns
 unfolding waveforms
@@ -17,4 +17,4 @@ returns c =
     let p2 : List ℕ = where_some c.args.wires wire_waveforms in
     let p3 : List ℕ = where_some c.args.controls control_waveform in
     let p4 : List ℕ = waveforms_end in
-    on_ok_weaker c.extend-2.result (λ pushed. behind t4 t1 t0 p1 (p2 ++ (p3 ++ p4)) (behind t4 t2 t1 p2 (p3 ++ p4) (behind t4 t3 t2 p3 p4 pushed c.in_ok-push_where_some-2.ensures) c.in_ok-push_where_some.ensures) c.in_ok-extend.ensures.ok) c.extend-2.ensures.ok
+    on_ok_weaker c.extend-2.result (λ pushed. joined_before t4 t1 t0 p1 (p2 ++ (p3 ++ p4)) (joined_before t4 t2 t1 p2 (p3 ++ p4) (joined_before t4 t3 t2 p3 p4 pushed c.in_ok-push_where_some-2.ensures) c.in_ok-push_where_some.ensures) c.in_ok-extend.ensures.ok) c.extend-2.ensures.ok

@@ -2,9 +2,9 @@ use Rattle.std.proofs.Common.{◌≡◌, ◌+◌, ◌-◌, ◌*◌, ◌++◌, ap
 use Rattle.std.specs.List.{flat_map, range_with_len}
 use Rattle.vcd_text.specs.Dumps.{variable_lines}
 use Rattle.vcd_text.specs.Variables.{wire_variables}
-use Rattle.vcd_text.proofs.Parts.{on_ok}
 use Rattle.vcd_text.proofs.Listed.{wire_more, bus_listed}
 use Rattle.vcd_text.proofs.definitions.push_bus.Goals as goal
+use Rattle.common_lemmas.proofs.Options.{on_ok}
 
 pub loop-wire-init : goal.loop-wire-init
 loop-wire-init c =

@@ -1,9 +1,9 @@
 use Rattle.std.proofs.Common.{ℕ, List, ◌++◌, codes, length}
 use Rattle.std.proofs.lemmas.Result.{on_ok_weaker}
-use Rattle.form_pieces.proofs.Texts.{behind}
 use Rattle.form_pieces.specs.Pieces.{where_some}
 use Rattle.verilog_text.specs.VerilogText.{chip, control_ports, control_signals, counts, opening, wire_ports, wire_signals}
 use Rattle.verilog_text.proofs.chip.push_chip.Goals as goal
+use Rattle.common_lemmas.proofs.Lists.{joined_before}
 
 pub returns : goal.returns
 unfolding chip
@@ -23,4 +23,4 @@ returns c =
     let p5 : List ℕ = where_some c.args.wires wire_ports in
     let p6 : List ℕ = control_ports 0 c.args.controls.now in
     let p7 : List ℕ = codes "\n  );\n" in
-    on_ok_weaker c.extend-3.result (λ pushed. behind t7 t1 t0 p1 (p2 ++ (p3 ++ (p4 ++ (p5 ++ (p6 ++ p7))))) (behind t7 t2 t1 p2 (p3 ++ (p4 ++ (p5 ++ (p6 ++ p7)))) (behind t7 t3 t2 p3 (p4 ++ (p5 ++ (p6 ++ p7))) (behind t7 t4 t3 p4 (p5 ++ (p6 ++ p7)) (behind t7 t5 t4 p5 (p6 ++ p7) (behind t7 t6 t5 p6 p7 pushed c.in_ok-push_ports.ensures) c.in_ok-push_where_some.ensures) c.in_ok-extend-2.ensures.ok) c.in_ok-push_control_signals.ensures) c.in_ok-push_wire_signals.ensures) c.in_ok-extend.ensures.ok) c.extend-3.ensures.ok
+    on_ok_weaker c.extend-3.result (λ pushed. joined_before t7 t1 t0 p1 (p2 ++ (p3 ++ (p4 ++ (p5 ++ (p6 ++ p7))))) (joined_before t7 t2 t1 p2 (p3 ++ (p4 ++ (p5 ++ (p6 ++ p7)))) (joined_before t7 t3 t2 p3 (p4 ++ (p5 ++ (p6 ++ p7))) (joined_before t7 t4 t3 p4 (p5 ++ (p6 ++ p7)) (joined_before t7 t5 t4 p5 (p6 ++ p7) (joined_before t7 t6 t5 p6 p7 pushed c.in_ok-push_ports.ensures) c.in_ok-push_where_some.ensures) c.in_ok-extend-2.ensures.ok) c.in_ok-push_control_signals.ensures) c.in_ok-push_wire_signals.ensures) c.in_ok-extend.ensures.ok) c.extend-3.ensures.ok

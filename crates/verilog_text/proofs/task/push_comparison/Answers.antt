@@ -1,9 +1,10 @@
 use Rattle.std.proofs.Common.{ℕ, List, ◌++◌, ◌∙◌, ap, sym, codes}
 use Rattle.std.specs.Prelude.{replicate}
 use Rattle.std.proofs.lemmas.Result.{on_ok_weaker}
-use Rattle.form_pieces.proofs.Texts.{behind, where_some-some}
+use Rattle.form_pieces.proofs.Texts.{where_some-some}
 use Rattle.verilog_text.specs.VerilogText.{comparison, failure, number}
 use Rattle.verilog_text.proofs.task.push_comparison.Goals as goal
+use Rattle.common_lemmas.proofs.Lists.{joined_before}
 
 pub returns : goal.returns
 returns c =
@@ -16,4 +17,4 @@ returns c =
     let p2 : List ℕ = number (replicate c.args.wires 48) in
     let p3 : List ℕ = codes ") begin\n        failed = failed + 1;\n" in
     let p4 : List ℕ = failure in
-    on_ok_weaker c.extend-3.result (λ pushed. behind t4 t1 t0 p1 (p2 ++ (p3 ++ p4)) (behind t4 t2 t1 p2 (p3 ++ p4) (behind t4 t3 t2 p3 p4 pushed c.in_ok-extend-2.ensures.ok) c.in_ok-push_zero.ensures) c.in_ok-extend.ensures.ok ∙ ap (λ t. t0 ++ t) (sym (where_some-some c.args.wires (comparison c.args.wires) c.if-wires-eq0.false))) c.extend-3.ensures.ok
+    on_ok_weaker c.extend-3.result (λ pushed. joined_before t4 t1 t0 p1 (p2 ++ (p3 ++ p4)) (joined_before t4 t2 t1 p2 (p3 ++ p4) (joined_before t4 t3 t2 p3 p4 pushed c.in_ok-extend-2.ensures.ok) c.in_ok-push_zero.ensures) c.in_ok-extend.ensures.ok ∙ ap (λ t. t0 ++ t) (sym (where_some-some c.args.wires (comparison c.args.wires) c.if-wires-eq0.false))) c.extend-3.ensures.ok

@@ -1,9 +1,9 @@
 use Rattle.std.proofs.Common.{ℕ, List, ◌++◌, codes}
 use Rattle.std.proofs.lemmas.Result.{on_ok_weaker}
-use Rattle.form_pieces.proofs.Texts.{behind}
 use Rattle.form_pieces.specs.Pieces.{where_some}
 use Rattle.verilog_text.specs.VerilogText.{clocking, comparison, steps}
 use Rattle.verilog_text.proofs.task.push_steps.Goals as goal
+use Rattle.common_lemmas.proofs.Lists.{joined_before}
 
 pub returns : goal.returns
 unfolding steps
@@ -21,4 +21,4 @@ returns c =
     let p4 : List ℕ = codes "      #40;\n" in
     let p5 : List ℕ = where_some c.args.wires (comparison c.args.wires) in
     let p6 : List ℕ = clocking in
-    on_ok_weaker c.extend-3.result (λ pushed. behind t6 t1 t0 p1 (p2 ++ (p3 ++ (p4 ++ (p5 ++ p6)))) (behind t6 t2 t1 p2 (p3 ++ (p4 ++ (p5 ++ p6))) (behind t6 t3 t2 p3 (p4 ++ (p5 ++ p6)) (behind t6 t4 t3 p4 (p5 ++ p6) (behind t6 t5 t4 p5 p6 pushed c.in_ok-push_comparison.ensures) c.in_ok-extend-2.ensures.ok) c.in_ok-push_where_some-2.ensures) c.in_ok-push_where_some.ensures) c.in_ok-extend.ensures.ok) c.extend-3.ensures.ok
+    on_ok_weaker c.extend-3.result (λ pushed. joined_before t6 t1 t0 p1 (p2 ++ (p3 ++ (p4 ++ (p5 ++ p6)))) (joined_before t6 t2 t1 p2 (p3 ++ (p4 ++ (p5 ++ p6))) (joined_before t6 t3 t2 p3 (p4 ++ (p5 ++ p6)) (joined_before t6 t4 t3 p4 (p5 ++ p6) (joined_before t6 t5 t4 p5 p6 pushed c.in_ok-push_comparison.ensures) c.in_ok-extend-2.ensures.ok) c.in_ok-push_where_some-2.ensures) c.in_ok-push_where_some.ensures) c.in_ok-extend.ensures.ok) c.extend-3.ensures.ok

@@ -1,7 +1,8 @@
 use Rattle.std.proofs.Common.{arith, ◌≡◌, ◌+◌, ◌++◌, ◌∷◌, [], map, ap, ◌∙◌, refl}
 use Rattle.std.specs.List.{range_with_len}
-use Rattle.wrapper_design.proofs.OneOrder.{chain_at, range_push, order_from_sort}
+use Rattle.wrapper_design.proofs.OneOrder.{chain_at, order_from_sort}
 use Rattle.wrapper_design.proofs.order.longest_first.Goals as goal
+use Rattle.common_lemmas.proofs.Ranges.{range_push}
 
 pub loop-place-preserved : goal.loop-place-preserved
 loop-place-preserved c =

@@ -1,9 +1,9 @@
 use Rattle.std.proofs.Common.{◌∙◌, ap, Some, arith}
 use Rattle.bit_machine.specs.Machines.{HasWire}
-use Rattle.bit_machine.proofs.LaneSteps.{slice_at}
 use Rattle.bit_machine.proofs.WireUsers.{user_place, user_lane, has_wire, no_user}
 use Rattle.bit_machine.proofs.WireSteps.{user_step, unused_step, with_lane}
 use Rattle.bit_machine.proofs.machine.Machine.step_wire.Goals as goal
+use Rattle.common_lemmas.proofs.Lists.{slice_at}
 
 pub index_mut-stepped-requires : goal.index_mut-stepped-requires
 index_mut-stepped-requires c =

@@ -1,7 +1,7 @@
 use Rattle.std.proofs.Common.{◌∙◌, ap, Some, arith}
-use Rattle.bit_machine.proofs.LaneSteps.{slice_at}
 use Rattle.bit_machine.proofs.WireUsers.{user_place, has_wire, no_user}
 use Rattle.bit_machine.proofs.machine.Machine.user.Goals as goal
+use Rattle.common_lemmas.proofs.Lists.{slice_at}
 
 pub returns-in-None-clause-none : goal.returns-in-None-clause-none
 returns-in-None-clause-none c = λ content tests is.

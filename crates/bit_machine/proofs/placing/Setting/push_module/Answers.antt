@@ -1,9 +1,9 @@
 use Rattle.std.proofs.Common.{◌++◌, take, arith}
 use Rattle.soc_model.specs.Chips.{soc_value, module_value}
 use Rattle.bit_machine.specs.Placed.{planned_in, IsPlacedLane}
-use Rattle.bit_machine.proofs.LaneSteps.{slice_at}
 use Rattle.bit_machine.proofs.PlacedTests.{next_test, all_tests, no_tests}
 use Rattle.bit_machine.proofs.placing.Setting.push_module.Goals as goal
+use Rattle.common_lemmas.proofs.Lists.{slice_at}
 
 pub loop-at-init : goal.loop-at-init
 loop-at-init g c = λ done are. no_tests (IsPlacedLane (g.C.Contents.keys c.args.contents.now) (soc_value c.args.self.now.chip.soc.now) c.args.self.now.chip.index.now) done c.args.lanes.now.items are

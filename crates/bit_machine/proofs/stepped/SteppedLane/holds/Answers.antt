@@ -1,7 +1,8 @@
 use Rattle.std.proofs.Common.{◌≡◌, ◌<◌, ◌≤◌, Some, true, false, length, sym, arith}
 use Rattle.std.specs.Prelude.{slice_get}
-use Rattle.bit_machine.proofs.LaneSteps.{slice_at, ring_long, path_holds_in, path_holds_next, all_hold, one_differs}
+use Rattle.bit_machine.proofs.LaneSteps.{ring_long, path_holds_in, path_holds_next, all_hold, one_differs}
 use Rattle.bit_machine.proofs.stepped.SteppedLane.holds.Goals as goal
+use Rattle.common_lemmas.proofs.Lists.{slice_at}
 
 pub returns-then-not-holds : goal.returns-then-not-holds
 returns-then-not-holds c = λ content t tam is.

@@ -1,8 +1,9 @@
 use Rattle.std.proofs.Common.{◌≡◌, ◌<◌, ◌∙◌, Some, sym, ap, length, arith}
 use Rattle.std.specs.Prelude.{nat_lt, option_map}
 use Rattle.plan_model.specs.Moments.{turn_value, moment_behind}
-use Rattle.bit_machine.proofs.LaneSteps.{slice_at, read_within}
+use Rattle.bit_machine.proofs.LaneSteps.{read_within}
 use Rattle.bit_machine.proofs.stepped.SteppedLane.is_read.Goals as goal
+use Rattle.common_lemmas.proofs.Lists.{slice_at}
 
 pub returns-in-Some : goal.returns-in-Some
 returns-in-Some c = λ content t tam is.

@@ -1,7 +1,8 @@
 use Rattle.std.proofs.Common.{◌≡◌, ◌<◌, Some, length, arith}
 use Rattle.std.specs.Prelude.{slice_get}
-use Rattle.bit_machine.proofs.LaneSteps.{slice_at, ring_long, ring_stepped, lane_bits_stepped}
+use Rattle.bit_machine.proofs.LaneSteps.{ring_long, ring_stepped, lane_bits_stepped}
 use Rattle.bit_machine.proofs.stepped.SteppedLane.step.Goals as goal
+use Rattle.common_lemmas.proofs.Lists.{slice_at}
 
 pub step-requires-clause-fits : goal.step-requires-clause-fits
 step-requires-clause-fits c =

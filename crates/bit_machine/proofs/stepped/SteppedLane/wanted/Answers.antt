@@ -3,8 +3,8 @@ use Rattle.std.specs.Prelude.{slice_index, option_map}
 use Rattle.plan_model.specs.Moments.{turn_value, moment_ahead}
 use Rattle.bit_machine.specs.Packed.{is_set}
 use Rattle.bit_machine.proofs.LaneSteps.{wanted_bit}
-use Rattle.bit_machine.proofs.PathBits.{any_default}
 use Rattle.bit_machine.proofs.stepped.SteppedLane.wanted.Goals as goal
+use Rattle.common_lemmas.proofs.Lists.{any_default}
 
 pub returns-in-Some : goal.returns-in-Some
 returns-in-Some c = λ content t cycle tam is now.

@@ -3,10 +3,10 @@ use Rattle.std.proofs.lemmas.List.{with_items_is}
 use Rattle.soc_model.specs.Chips.{soc_value}
 use Rattle.plan_model.specs.Rules.{bare_limits}
 use Rattle.plan_model.specs.Views.{plan_value}
-use Rattle.tester_vectors.proofs.Blocks.{block_fits}
 use Rattle.tester_vectors.proofs.CycleLines.{block_is}
 use Rattle.tester_vectors.proofs.ReadBits.{marks_stand_in}
 use Rattle.tester_vectors.proofs.text.Run.next_block.Goals as goal
+use Rattle.common_lemmas.proofs.Numbers.{block_fits}
 
 pub put_lines-requires-clause-room : goal.put_lines-requires-clause-room
 put_lines-requires-clause-room g c =

@@ -1,7 +1,7 @@
 use Rattle.std.proofs.Common.{◌++◌, decimal, refl}
-use Rattle.vcd_text.proofs.Parts.{on_ok}
 use Rattle.vcd_text.proofs.Listed.{listed_one}
 use Rattle.vcd_text.proofs.definitions.Listing.push_control.Goals as goal
+use Rattle.common_lemmas.proofs.Options.{on_ok}
 
 pub returns : goal.returns
 returns c =

@@ -1,8 +1,8 @@
 use Rattle.std.proofs.Common.{refl}
 use Rattle.vcd_text.specs.Variables.{run_name}
-use Rattle.vcd_text.proofs.Parts.{on_ok}
 use Rattle.vcd_text.proofs.Listed.{listed_one}
 use Rattle.vcd_text.proofs.definitions.Listing.push_run.Goals as goal
+use Rattle.common_lemmas.proofs.Options.{on_ok}
 
 pub returns : goal.returns
 returns c =
