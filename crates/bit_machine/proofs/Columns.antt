@@ -45,23 +45,6 @@ one_put text wires row below column b p h fits at =
     apart r c (inr (inl above)) = inr (λ e. omega (arith, above, e))
     apart r c (inr (inr under)) = inr (λ e. omega (arith, under, e))
 
-pub none_down : (wires row column : ℕ) (f : ℕ → ℕ) (text : List ℕ) → ArePutDown wires row 0 column f text text
-none_down wires row column f text = record { long = refl; put = λ i h. absurd (omega arith); others = λ r c h e. refl }
-
-pub down_more : (wires row n column b : ℕ) (f : ℕ → ℕ) (old now new : List ℕ) → column < 2 * wires + 2 → b ≡ f n → ArePutDown wires row n column f old now → ArePutDown wires (row + n) 1 column (λ i. b) now new → ArePutDown wires row (n + 1) column f old new
-down_more wires row n column b f old now new h is before one = record {
-  long = one.long ∙ before.long;
-  put = λ i less. here i less (cases_eq i n);
-  others = λ r c h' elsewhere. one.others r c h' (after r c elsewhere) ∙ before.others r c h' (sooner r c elsewhere);
-}
-  where
-    here : (i : ℕ) → i < n + 1 → (i ≡ n) ⊎ (i ≢ n) → byte_at new wires (row + i) column ≡ Some (f i)
-    here i less (inl same) =
-        let now' : byte_at new wires (row + n + 0) column ≡ Some b = one.put 0 (omega arith) in
-        let place : row + n + 0 ≡ row + n = omega arith in
-        rw same (rw place at now' ∙ ap Some is)
-    here i less (inr other) = one.others (row + i) column h (inr (inl (omega (arith, less, other)))) ∙ before.put i (omega (arith, less, other))
-
     after : (r c : ℕ) → IsElsewhere row (n + 1) column r c → IsElsewhere (row + n) 1 column r c
     after r c (inl other) = inl other
     after r c (inr (inl above)) = inr (inl (omega (arith, above)))

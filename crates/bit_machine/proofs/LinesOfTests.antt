@@ -39,12 +39,6 @@ some_lane_at keys lanes wires i l s at =
 some_routed : (keys : Keys) (wires : ℕ) (l : Lane) (s : HasSomeLane keys wires l) → l.tam ≡ true → (s.test.tam ≡ true) × IsRouted s.has.is.inputs s.has.is.lengths s.test l
 some_routed keys wires l s tam = let tam' : s.test.tam ≡ true = sym s.has.is.fitted.tam ∙ tam in (tam', s.has.is.fitted.wired tam')
 
-pub some_key : (keys : Keys) (wires : ℕ) (l : Lane) → HasSomeLane keys wires l → l.tam ≡ true → IsKey keys l.key
-some_key keys wires l s tam = s.has.is.key tam
-
-pub some_phases : (keys : Keys) (wires : ℕ) (l : Lane) → HasSomeLane keys wires l → ArePhases l.phases
-some_phases keys wires l s = s.has.is.fitted.phases
-
 pub columns_fit : (keys : Keys) (wires : ℕ) (l : Lane) → HasSomeLane keys wires l → l.tam ≡ true → l.first_wire + length l.paths.items ≤ wires
 columns_fit keys wires l s tam =
     let r = some_routed keys wires l s tam in
@@ -265,19 +259,6 @@ one_all drive mark content marks tests wires i c row t l m old h tam begun mo no
 }
 
 -- ---- the cycles of a test
-
-pub played_first : (drive : ℕ → ℕ → ℕ → Bool) (mark : ℕ → ℕ → ℕ → ℕ) (content : Content) (marks : Marks) (tests : List PlannedTest) (wires i from : ℕ) (t : PlannedTest) (l : Lane) (cycle : ℕ) (old : List ℕ) → HasLane (IsFilled drive mark content marks) tests wires i t l → cycle ≡ max l.start from → ArePlayed content marks t wires from cycle 0 old old
-played_first drive mark content marks tests wires i from t l cycle old h is = record {
-  long = refl;
-  each = λ c low high. unused_played drive mark content marks tests wires i c (0 + (c - from)) t l old old h (λ w used. early c low high (uses_is c w t used)) (λ column less. refl);
-  others = λ r c less rows. refl;
-}
-  where
-    early : (c : ℕ) → from ≤ c → c < cycle → {w : ℕ} → Uses c w t → ⊥
-    early c low high u =
-        let start : l.start ≡ t.start = h.is.fitted.start in
-        let begun : t.start ≤ c = u.active.0 in
-        omega (arith, is, start, begun, low, high)
 
 pub played_more : (drive : ℕ → ℕ → ℕ → Bool) (mark : ℕ → ℕ → ℕ → ℕ) (content : Content) (marks : Marks) (tests : List PlannedTest) (wires i from cycle until : ℕ) (t : PlannedTest) (l : Lane) (old now new : List ℕ) → HasLane (IsFilled drive mark content marks) tests wires i t l → from ≤ cycle → cycle ≤ until →
     ArePlayed content marks t wires from cycle 0 old now → ArePlayed content marks t wires cycle until (cycle - from) now new → ArePlayed content marks t wires from until 0 old new

@@ -7,11 +7,6 @@ use Rattle.bit_machine.specs.Paths.{made_from}
 pub same_rest : (m x y z : ℕ) → x ≡ y + m * z → x % m ≡ y % m
 same_rest m x y z e = ap (λ v. v % m) e ∙ add-mul-mod_self_left y m z
 
--- what a seed, a module and a test add
-pub base_rest : (m seed p q a b c : ℕ) → seed ≡ a + m * (seed / m) → p ≡ b + m * (p / m) → q ≡ c + m * (q / m) → (a + 31 * b + 17 * c) % m ≡ (seed + 31 * p + 17 * q) % m
-base_rest m seed p q a b c e f g =
-    sym (same_rest m (seed + 31 * p + 17 * q) (a + 31 * b + 17 * c) (seed / m + 31 * (p / m) + 17 * (q / m)) (omega (arith, e, f, g)))
-
 -- what a pattern and a bit's number add
 product_rest : (m k n a b u v : ℕ) → k ≡ a + m * u → n ≡ b + m * v → n * k ≡ b * a + m * (b * u + v * a + m * (v * u))
 product_rest m k n a b u v e f = rw (e, f) (omega arith)

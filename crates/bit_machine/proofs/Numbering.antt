@@ -23,18 +23,6 @@ use Rattle.common_lemmas.proofs.Lists.{map_append, map_twice, any_default}
 
 -- ---- pushed numbers
 
-pub pushed_run : (runs new : List NumberRun) (from count : ℕ) → new ≡ runs ++ record { from = from; count = count } ∷ [] → all_numbers new ≡ all_numbers runs ++ range_with_len from count
-pushed_run runs new from count pushed =
-    ap all_numbers pushed ∙ flat_map-append run_numbers runs (record { from = from; count = count } ∷ []) ∙ ap (λ v. all_numbers runs ++ v) (append-nil (range_with_len from count))
-
-pub pushed_full : (runs new : List NumberRun) (from count : ℕ) → new ≡ runs ++ record { from = from; count = count } ∷ [] → 1 ≤ count → from + count < 2 ^ 64 → All IsFull runs → All IsFull new
-pushed_full runs new from count pushed some fits full =
-    subst (All IsFull) (sym pushed) (All-append IsFull runs (record { from = from; count = count } ∷ []) full one)
-  where
-    one : All IsFull (record { from = from; count = count } ∷ [])
-    one zero d h = record { some = some; fits = fits }
-    one (suc k) d h = absurd (omega arith)
-
 pub length-flop_numbers : (base : ℕ) (lengths scans : List ℕ) → length (flat_map (flop_numbers base lengths) scans) ≡ sum_by (slice_index lengths) scans
 length-flop_numbers base lengths [] = refl
 length-flop_numbers base lengths (c ∷ cs) =

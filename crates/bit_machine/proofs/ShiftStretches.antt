@@ -187,10 +187,6 @@ no_time : (a : Option Turn) → earlier 0 a ≡ a
 no_time None = refl
 no_time (Some t) = let e : t.shifts - 0 ≡ t.shifts = omega arith in ap (λ (n : ℕ). Some (record { shifts = n; pattern = t.pattern })) e
 
-no_time_on : (b : Option Turn) → later 0 b ≡ b
-no_time_on None = refl
-no_time_on (Some t) = let e : t.shifts + 0 ≡ t.shifts = omega arith in ap (λ (n : ℕ). Some (record { shifts = n; pattern = t.pattern })) e
-
 -- how many Shifts there are
 pub shifts_before : (p : Phases) (n count : ℕ) (ahead behind : Option Turn) (a : Turn) → ahead ≡ Some a → count ≤ a.shifts + 1 → IsMoment p n (moment.Shift ahead behind) → AreShifts p n ahead behind count
 shifts_before p n count ahead behind a is few m i h =
@@ -203,12 +199,6 @@ shifts_after p n count behind b is many m i h =
 pub none_ahead : (p : Phases) (n count : ℕ) (ahead behind : Option Turn) → ahead ≡ None → ((n : ℕ) → IsMoment p n (moment.Shift None behind) → AreShifts p n None behind count) → IsMoment p n (moment.Shift ahead behind) → AreShifts p n ahead behind count
 none_ahead p n count ahead behind is shifts m =
     subst (λ (o : Option Turn). IsMoment p n (moment.Shift o behind) → AreShifts p n o behind count) (sym is) (shifts n) m
-
-pub one_shift : (p : Phases) (n : ℕ) (ahead behind : Option Turn) → IsMoment p n (moment.Shift ahead behind) → AreShifts p n ahead behind 1
-one_shift p n ahead behind m i h =
-    let none : i ≡ 0 = omega arith in
-    let place : n + 0 ≡ n = omega arith in
-    rw (none, place, no_time ahead, no_time_on behind) m
 
 -- ---- the bits of a chain
 

@@ -21,11 +21,6 @@ none_below lanes c i l at on less = absurd (omega arith)
 
 -- ---- the user of a wire
 
-pub user_within : (lanes : List SteppedLane) (c : ℕ) (users : List (Option ℕ)) (s : AreSomeUsers lanes c users) (w p : ℕ) → slice_get users w ≡ Some (Some p) → p < length lanes
-user_within lanes c users s w p there =
-    let u = s.by.user w p there in
-    omega (arith, s.are.long, slice_get_within s.tests p u.0 u.1)
-
 pub user_ready : (lanes : List SteppedLane) (c : ℕ) (users : List (Option ℕ)) (s : AreSomeUsers lanes c users) (w p : ℕ) → slice_get users w ≡ Some (Some p) → (l : SteppedLane) → slice_get lanes p ≡ Some l → IsSteppable l × IsBusy l.lane c
 user_ready lanes c users s w p there l at =
     let u = s.by.user w p there in

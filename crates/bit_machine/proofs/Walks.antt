@@ -84,9 +84,6 @@ pub record IsReached (runs : List NumberRun) (place run before : ℕ) : Type 0 w
   pub within : before < length (all_numbers (drop run runs))
   pub rest : drop before (all_numbers (drop run runs)) ≡ drop place (all_numbers runs)
 
-pub reached_first : (runs : List NumberRun) (place : ℕ) → place < length (all_numbers runs) → IsReached runs place 0 place
-reached_first runs place h = record { within = h; rest = refl }
-
 pub reached_next : (runs : List NumberRun) (place run before : ℕ) (r : NumberRun) → run < length runs → r ≡ get_or runs run r → r.count ≤ before → IsReached runs place run before → IsReached runs place (run + 1) (before - r.count)
 reached_next runs place run before r h at past is =
     let whole = next_run runs run r h at in
@@ -97,12 +94,6 @@ reached_next runs place run before r h at past is =
       within = omega (arith, is.within, total, long, past);
       rest = sym (drop-append-add (run_numbers r) (all_numbers (drop (run + 1) runs)) (before - r.count)) ∙ ap (λ n. drop n (run_numbers r ++ all_numbers (drop (run + 1) runs))) there ∙ ap (drop before) (sym whole) ∙ is.rest;
     }
-
-pub reached_past : (runs : List NumberRun) (place run before : ℕ) → length runs ≤ run → IsReached runs place run before → ⊥
-reached_past runs place run before past is =
-    let none : drop run runs ≡ [] = drop_all run runs past in
-    let less = rw none at is.within in
-    absurd (omega (arith, less))
 
 pub walk_begun : (runs : List NumberRun) (values : ℕ → ℕ) (place run before v : ℕ) (r : NumberRun) → All IsFull runs → run < length runs → r ≡ get_or runs run r → before < r.count → v ≡ values (r.from + before) → IsReached runs place run before →
     IsWalk runs values (record { run = run + 1; left = r.count - before; value = v }) (drop place (all_numbers runs))
@@ -115,26 +106,6 @@ walk_begun runs values place run before v r full h at less value is =
       fits = let fits = whole.fits in omega (arith, fits, less);
       rest_is = sym is.rest ∙ ap (drop before) (next_run runs run r h at) ∙ drop-append-le before (run_numbers r) (all_numbers (drop (run + 1) runs)) (omega (arith, long, less)) ∙ ap (λ v. v ++ all_numbers (drop (run + 1) runs)) (drop_range before r.from r.count (omega arith));
     }
-
--- a walk at the end of its run is at the next one
-pub run_there : (runs : List NumberRun) (values : ℕ → ℕ) (w : Walk) → w.left ≡ 0 → HasNext runs values w → w.run < length runs
-run_there runs values w none next = go (cases_lt w.run (length runs)) where
-  go : (w.run < length runs) ⊎ (length runs ≤ w.run) → w.run < length runs
-  go (inl less) = less
-  go (inr past) =
-      let over : drop w.run runs ≡ [] = drop_all w.run runs past in
-      let e = next.is.rest_is in
-      let e' = rw (none, over) at e in
-      absurd cc
-
-pub walk_refilled : (runs : List NumberRun) (values : ℕ → ℕ) (w : Walk) (r : NumberRun) (v : ℕ) → All IsFull runs → w.left ≡ 0 → w.run < length runs → r ≡ get_or runs w.run r → v ≡ values r.from → (rest : List ℕ) → IsWalk runs values w rest →
-    IsWalk runs values (record { run = w.run + 1; left = r.count; value = v }) rest
-walk_refilled runs values w r v full none h at value rest is = record {
-  number = r.from;
-  value = value;
-  fits = (full_at runs w.run r full h at).fits;
-  rest_is = is.rest_is ∙ ap (λ n. range_with_len is.number n ++ all_numbers (drop w.run runs)) none ∙ next_run runs w.run r h at;
-}
 
 first_of : (number left n : ℕ) (tail more : List ℕ) → 1 ≤ left → n ∷ more ≡ range_with_len number left ++ tail → (n ≡ number) × (more ≡ range_with_len (number + 1) (left - 1) ++ tail)
 first_of number zero n tail more h e = absurd (omega arith)
@@ -215,29 +186,12 @@ word_more line numbers first place word new b low bit here others is = record {
     go i h (inl same) = rw same (here ∙ bit)
     go i h (inr other) = others i (omega arith) other ∙ is.bits i (omega (arith, h, other))
 
-pub whole_word : (line : Line) (numbers : List ℕ) (first count word : ℕ) → first < length numbers → count ≡ min (length numbers - first) 64 → ((i : ℕ) → i < count → is_set word i ≡ line_bit line (slice_index numbers (first + i))) →
-    ((i : ℕ) → count ≤ i → i < 64 → is_set word i ≡ false) → IsLineWord line numbers first word
-whole_word line numbers first count word h few bits rest i l = go (cases_lt (first + i) (length numbers)) where
-  go : (first + i < length numbers) ⊎ (length numbers ≤ first + i) → is_set word i ≡ bit_at_place line numbers (first + i)
-  go (inl less) = rw (lt-ltb (first + i) (length numbers) less) (bits i (omega (arith, few, less, l)))
-  go (inr past) = rw (le-ltb (first + i) (length numbers) past) (rest i (omega (arith, few, past, l)) l)
-
-pub no_word : (line : Line) (numbers : List ℕ) (first : ℕ) → length numbers ≤ first → IsLineWord line numbers first 0
-no_word line numbers first past i l =
-    let over : length numbers ≤ first + i = omega arith in
-    rw (le-ltb (first + i) (length numbers) over) (ap (λ d. nat_eq d 1) (bit_at-zero i))
-
 -- the bit of a place in the word that it stands in
 pub word_has : (line : Line) (numbers : List ℕ) (i word : ℕ) → i < length numbers → IsLineWord line numbers (i - i % 64) word → is_set word (i % 64) ≡ line_bit line (slice_index numbers i)
 word_has line numbers i word h is =
     let low : i % 64 < 64 = omega arith in
     let there : i - i % 64 + i % 64 ≡ i = omega arith in
     is (i % 64) low ∙ ap (bit_at_place line numbers) there ∙ rw (lt-ltb i (length numbers) h) refl
-
-pub word_stays : (line : Line) (numbers : List ℕ) (i word : ℕ) → IsLineWord line numbers (i - i % 64) word → 0 < (i + 1) % 64 → IsLineWord line numbers (i + 1 - (i + 1) % 64) word
-word_stays line numbers i word is some =
-    let same : i - i % 64 ≡ i + 1 - (i + 1) % 64 = omega (arith, some) in
-    subst (λ n. IsLineWord line numbers n word) same is
 
 -- the numbers of one run more
 pub count_more : (runs : List NumberRun) (i : ℕ) (d : NumberRun) → i < length runs → (length (all_numbers (take i runs)) + (get_or runs i d).count ≡ length (all_numbers (take (i + 1) runs))) × (length (all_numbers (take (i + 1) runs)) ≤ length (all_numbers runs))

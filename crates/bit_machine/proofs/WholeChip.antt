@@ -19,9 +19,6 @@ use Rattle.bit_machine.proofs.Filling.{filled}
 abbrev pub chip_view : SocValue → PlanValue → ℕ → Machine → ℕ → ℕ → ChipValue
 chip_view s p seed m a r = record { soc = s; plan = p; seed = seed; cycle = m.cycle; state = lanes_state m.lanes.items; captures = a; right_loads = r }
 
-pub some_machine : (s : SocValue) (p : PlanValue) (seed : ℕ) (m : Machine) (a r : ℕ) → IsChip s p seed m a r → IsSomeMachine m
-some_machine s p seed m a r is = record { content = made_content s seed; tests = planned s p; is = is.machine }
-
 -- a slice of one entry a wire fits the machine
 pub wide : (v : ChipValue) (s : SocValue) (p : PlanValue) (seed : ℕ) (m : Machine) (a r : ℕ) (n : ℕ) → chip_view s p seed m a r ≡ v → IsChip s p seed m a r → n ≡ wires_of v.plan → n ≡ length m.users.items
 wide v s p seed m a r n is chip long = long ∙ ap (λ (v : ChipValue). wires_of v.plan) (sym is) ∙ sym chip.wires

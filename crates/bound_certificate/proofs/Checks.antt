@@ -25,12 +25,6 @@ family_some soc w place shown is = go (parent_place soc.modules place) is where
   go None e = absurd cc
   go (Some p) e = (refl, cc)
 
-pub family_none : (soc : SocValue) (w place : ℕ) → None ≡ option_map (λ parent. pair_bound soc w parent place) (parent_place soc.modules place) → IsTrue (has_parent soc place) → ⊥
-family_none soc w place is = go (parent_place soc.modules place) is where
-  go : (o : Option ℕ) → None ≡ option_map (λ parent. pair_bound soc w parent place) o → IsTrue (is_some o) → ⊥
-  go None e some = absurd cc
-  go (Some p) e some = absurd cc
-
 -- ---- what the answer says of the certificate
 
 pub checked_accepts : (soc : SocValue) (limits : LimitsValue) (bound : BoundValue) (r : Result (Unit {0}) BoundFault) → IsCheck soc limits bound.cycles bound.why r → OnOk r (IsAccepted soc limits bound)

@@ -86,9 +86,6 @@ go_then nodes a b c f g = record {
   right = λ soc limits are right. g.right soc limits are (f.right soc limits are right);
 }
 
-unknown_begun : Some Begun ≡ Some Unknown → ⊥
-unknown_begun e = cc
-
 begun_known : (s : ℕ) → Begun ≡ Known s → ⊥
 begun_known s e = cc
 
@@ -181,12 +178,6 @@ before_within soc limits nodes are j p n at c =
     slice_get_within nodes p m.0 m.1
 
 -- ---- the greatest so far
-
-pub most_none : (soc : SocValue) (limits : LimitsValue) (nodes : List NodeValue) (places : List ℕ) → places ≡ [] → IsMost soc limits nodes places 0
-most_none soc limits nodes places none = record { within = λ k p at. absurd (nothing k p at); attained = inl refl }
-  where
-    nothing : (k p : ℕ) → slice_get places k ≡ Some p → ⊥
-    nothing k p at = let at' = at in let at'' = rw none at at' in cc
 
 pub most_more : (soc : SocValue) (limits : LimitsValue) (nodes : List NodeValue) (places : List ℕ) (k most s : ℕ) → k < length places → IsMost soc limits nodes (take k places) most → HasSum soc limits nodes (get_or places k 0) s → IsMost soc limits nodes (take (k + 1) places) (max most s)
 most_more soc limits nodes places k most s less m has = subst (λ (l : List ℕ). IsMost soc limits nodes l (max most s)) (sym (take_more places k 0 less)) (record {

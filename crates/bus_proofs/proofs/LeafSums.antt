@@ -160,19 +160,6 @@ made_idle g os n list room at made =
 
 -- ---- nothing yet
 
-pub made_none : (g : Basis) (room : Weighed) → length room.sums.items ≡ length (live_tests (chip_of g)) → ((i : ℕ) → slice_index room.sums.items i ≡ 0) → room.beside.items ≡ [] → room.power.items ≡ [] → room.rooms ≡ 0 → IsMade g [] room
-made_none g room long zero' beside power rooms = record {
-  long = long;
-  uses = λ at i cycles l there. sym (rw (beside, power, zero' i) (omega arith));
-  low = λ i within. omega (arith, zero' i);
-  beside = rw beside (omega arith);
-  listed = rw beside (λ p d less. absurd (omega arith));
-  power = rw power (omega arith);
-  near = rw power (λ p d less. absurd (omega arith));
-  rooms = rooms;
-  few_rooms = rw rooms (omega arith);
-}
-
 -- ---- bounds
 
 pub use_of-le : (soc : SocValue) (limits : LimitsValue) (at : ℕ → Bool) (list : ListValue) (cycles : ℕ) (l : LiveTest) → use_of soc limits at list cycles l ≤ cycles

@@ -79,17 +79,6 @@ pub rest_high-le : (w : ℕ) (c : Case) (known : ℕ) → rest_high w c known �
 rest_high-le w c zero = omega arith
 rest_high-le w c (suc last) = omega arith
 
--- whether a case is empty
-pub empty_is : (w : ℕ) (c : Case) → IsEmpty w c → is_empty_case w c ≡ true
-empty_is w c empty = elim empty [
-  | inl much ↦ ap (λ b. b || list_any (λ (i : Interval). nat_lt i.high i.low) c.intervals) (lt-ltb w (least_wires c.intervals) much)
-  | inr crossed ↦ or_second (nat_lt w (least_wires c.intervals)) (list_any (λ (i : Interval). nat_lt i.high i.low) c.intervals) (crossed_any c.intervals crossed.0 crossed.1 crossed.2)
-]
-  where
-    or_second : (a b : Bool) → b ≡ true → a || b ≡ true
-    or_second true b h = refl
-    or_second false b h = h
-
     crossed_any : (is : List Interval) (k : ℕ) → k < length is → (interval_of is k).high < (interval_of is k).low → list_any (λ (i : Interval). nat_lt i.high i.low) is ≡ true
     crossed_any [] k less cross = absurd (omega (arith, less))
     crossed_any (i ∷ is) zero less cross = ap (λ b. b || list_any (λ (i : Interval). nat_lt i.high i.low) is) (lt-ltb i.high i.low cross)

@@ -66,12 +66,6 @@ counts-le limit near g xs half within = elim (counts_together limit near g xs ha
 
 -- ---- the power of all tests
 
-none_counts : (limit near : ℕ) → 1 ≤ limit → 2 * near ≤ limit → counted limit near 0 ≡ 0
-none_counts limit near some half = elim (cases_lt 0 near) [
-  | inl more ↦ small_counts limit near 0 half more
-  | inr none ↦ rw (le-ltb limit (0 + near) (omega arith), le-ltb 0 near none) refl
-]
-
 -- at a cycle
 counts_at : (soc : SocValue) (limits : LimitsValue) (plan : PlanValue) → IsGood soc limits plan → (limit near : ℕ) → limits.power ≡ Some limit → 1 ≤ limit → 2 * near ≤ limit → (c : ℕ) → sum_by (λ l. while_active (λ r. counted limit near (draw_of limits l r)) (plan_of plan l) c) (live_tests soc) ≤ limit
 counts_at soc limits plan good limit near is some half c =

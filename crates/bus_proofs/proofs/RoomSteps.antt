@@ -28,9 +28,6 @@ further_then a b c x y = record {
   modules = y.modules ∙ x.modules;
 }
 
-pub same_further : (a b : CaseRoom) → IsSame a b → IsFurther a b
-same_further a b s = record { widths = s.widths.later; ranks = s.ranks.after_it; modules = s.modules }
-
 pub same_case : (a b : CaseRoom) (c : Case) → IsSame a b → IsCaseOf a c → IsCaseOf b c
 same_case a b c s is = record {
   intervals = s.widths.intervals ∙ is.intervals;

@@ -94,10 +94,6 @@ live_more base (x ∷ ms) (suc p) m at =
 pub live_next : (ms : List ModuleValue) (p : ℕ) (m : ModuleValue) → slice_get ms p ≡ Some m → live_from 0 (take (p + 1) ms) ≡ live_from 0 (take p ms) ++ live_of p m
 live_next ms p m at = let here : 0 + p ≡ p = omega arith in rw add-one (live_more 0 ms p m at ∙ ap (λ q. live_from 0 (take p ms) ++ live_of q m) here)
 
-pub none_live : (ms : List ModuleValue) → live_from 0 (take 0 ms) ≡ []
-unfolding live_from
-none_live ms = refl
-
 pub at_start : (soc : SocValue) (limits : Limits) (ts : List TestPlace) → ts ≡ [] → AreTestsAt soc limits (live_from 0 []) ts
 unfolding live_from
 at_start soc limits ts none = rw none (record { long = refl; at = λ i l t at-l at-t. absurd cc })

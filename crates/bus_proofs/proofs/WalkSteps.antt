@@ -341,17 +341,6 @@ pub leaf_enough : (g : Basis) (root : CaseRoom) (turns : List OpenSplit) (depth 
 leaf_enough g root turns depth next done a place x left leaf node at judged =
     subst (IsEnoughFor g done) (node_is x (OfLeaf leaf) (one_node g place x.node (OfLeaf leaf) at.node node)) judged
 
--- so where it isn't as it should be
-pub leaf_faulty : (g : Basis) (root : CaseRoom) (turns : List OpenSplit) (depth done : ℕ) (a : CaseRoom) (place : ℕ) (x : NodeCase) (left : List NodeCase) (leaf : LeafValue) (fault : ProofFault) →
-    IsNodeAt g place (OfLeaf leaf) → IsAt g root turns depth a place x left → IsJudged {X = Unit {0}} g done place (in_case x.within (OfLeaf leaf)) (Err fault) → IsJudged {X = ℕ} g done place x (Err fault)
-leaf_faulty g root turns depth done a place x left leaf fault node at judged =
-    subst (λ (n : NodeCase). IsJudged {X = ℕ} g done place n (Err fault)) (node_is x (OfLeaf leaf) (one_node g place x.node (OfLeaf leaf) at.node node)) (by fault judged)
-  where
-    by : (fault : ProofFault) → IsJudged {X = Unit {0}} g done place (in_case x.within (OfLeaf leaf)) (Err fault) → IsJudged {X = ℕ} g done place (in_case x.within (OfLeaf leaf)) (Err fault)
-    by (BadList p) h = h
-    by (BadNode p) h = h
-    by (Less p c s) h = h
-
 pub leaf_work : (g : Basis) (root : CaseRoom) (turns : List OpenSplit) (depth done next : ℕ) (a : CaseRoom) (place : ℕ) (x : NodeCase) (left : List NodeCase) (leaf : LeafValue) →
     IsNodeAt g place (OfLeaf leaf) → IsAt g root turns depth a place x left → next ≡ done + node_work g (in_case x.within (OfLeaf leaf)) → next ≡ done + node_work g x
 leaf_work g root turns depth done next a place x left leaf node at work =

@@ -35,12 +35,6 @@ refused_alone file Refused' bytes line (Answered status text) why d = inr (d.0, 
 refused_alone file Refused' bytes line (CannotRead missed) why d = absurd d
 refused_alone file Refused' bytes line OutOfMemory why d = inl (refl, refl)
 
--- a file that is too long
-pub long_alone : (file : FileKind) (Refused' : List ℕ → List ℕ → Type 0) (bytes : List ℕ) (verdict : Verdict) → Gives TooLong (too_long_line file) verdict → OfVerdict (DecidesAlone file Refused' loaded.TooLong bytes) verdict
-long_alone file Refused' bytes (Answered status text) d = inr d
-long_alone file Refused' bytes (CannotRead missed) d = absurd d
-long_alone file Refused' bytes OutOfMemory d = inl (refl, refl)
-
 -- the loads stop at the file
 pub stops : {S : Type 0} (is_load : LoadsOf S) (file : FileKind) (Refused' : List ℕ → List ℕ → Type 0) (name : List ℕ) (first : S) (answer : Loaded) (bytes : List ℕ) (last : S) (verdict : Verdict) →
     is_load first name (most_of file) answer bytes last → OfVerdict (DecidesAlone file Refused' answer bytes) verdict → OfVerdict (λ status text. StopsAt is_load file Refused' name first status text last) verdict
@@ -161,12 +155,6 @@ done_loaded is_load answer made verdict state is d = at_end is_load (done_with a
 pub any_loaded : {S : Type 0} (is_load : LoadsOf S) (refusal : Option (List ℕ)) (May : List ℕ → Type 0) (verdict : Verdict) (state : S) → GivesAny refusal May verdict → LoadsGive is_load (Unless refusal (done_with_any May)) state verdict state
 any_loaded is_load refusal May verdict state d =
     at_end is_load (Unless refusal (done_with_any May)) empty 0 0 verdict state (reads_nothing refusal (done_with_any May) tt) (unless_any refusal May (Some empty) 0 0 verdict d)
-
--- words that are no command
-pub bad_end : {S : Type 0} (is_load : LoadsOf S) (verdict : Verdict) (state : S) → Gives BadWords bad_words_line verdict → LoadsGive is_load NoCommand state verdict state
-bad_end is_load (Answered status text) state d = (refl, inr d)
-bad_end is_load (CannotRead missed) state d = absurd d
-bad_end is_load OutOfMemory state d = (refl, inl (refl, refl))
 
 -- ---- a file of a command's own
 

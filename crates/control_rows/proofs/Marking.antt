@@ -32,16 +32,6 @@ place-lt r count w x n h within room =
 
 -- ---- ones in one column
 
-pub no_ones : (put : ℕ → Bool) (columns row : ℕ) (text : List ℕ) → AreOnes put columns row 0 text text
-no_ones put columns row text = record {
-  long = refl;
-  bytes = λ r x h. go r x (put x);
-}
-  where
-    go : (r x : ℕ) (b : Bool) → byte_at text columns r x ≡ cond (b && (leb row r && ltb r (row + 0))) 49 (byte_at text columns r x)
-    go r x true = grind (arith, nat_tests)
-    go r x false = refl
-
 row_more : (x column row r k : ℕ) → (x ≡ column → r ≡ row + k → ⊥) → (eqb x column && (leb row r && ltb r (row + k))) ≡ (eqb x column && (leb row r && ltb r (row + (k + 1))))
 row_more x column row r k other = grind (arith, nat_tests)
 
@@ -75,14 +65,6 @@ record Bounds (a b from count start end : ℕ) : Type 0 where
   pub first : start ≡ max a from
   pub last : end ≡ min b (from + count)
 
-run_tests : (a b from count start end r x column : ℕ) → Bounds a b from count start end → start < end → r < count →
-    (eqb x column && (leb (start - from) r && ltb r ((start - from) + (end - start)))) ≡ (eqb x column && (leb a (from + r) && ltb (from + r) b))
-run_tests a b from count start end r x column are some within =
-    ap (λ v. eqb x column && v) (same (cases_lt (from + r) start) (cases_lt (from + r) end))
-  where
-    first : start ≡ max a from
-    first = are.first
-
     last : end ≡ min b (from + count)
     last = are.last
 
@@ -108,31 +90,9 @@ run_tests a b from count start end r x column are some within =
         let h : ltb (from + r) b ≡ false = le-ltb (from + r) b (omega arith) in
         rw (g, h) (both_false (leb (start - from) r) (leb a (from + r)))
 
-pub run_put : (t : ControlledTest) (columns column from count start end : ℕ) (old new : List ℕ) → start ≡ max t.start from → end ≡ min t.end (from + count) → start < end →
-    AreOnes (λ x. eqb x column) columns (start - from) (end - start) old new → ArePut (is_run column t) columns from count old new
-run_put t columns column from count start end old new first last some are = record {
-  long = are.long;
-  bytes = λ r x h within. are.bytes r x within ∙ ap (λ b. cond b 49 (byte_at old columns r x)) (run_tests t.start t.end from count start end r x column (record { first = first; last = last }) some h);
-}
-
-no_run : (a b from count r x column : ℕ) → min b (from + count) ≤ max a from → r < count → (eqb x column && (leb a (from + r) && ltb (from + r) b)) ≡ false
-no_run a b from count r x column none within = never (eqb x column) (apart (cases_lt (from + r) a) (cases_lt (from + r) b))
-  where
-    apart : ((from + r < a) ⊎ (a ≤ from + r)) → ((from + r < b) ⊎ (b ≤ from + r)) → (leb a (from + r) && ltb (from + r) b) ≡ false
-    apart (inl early) late = rw (lt-leb a (from + r) early) refl
-    apart (inr begun) (inl going) = absurd (omega arith)
-    apart (inr begun) (inr over) = and_right (leb a (from + r)) (ltb (from + r) b) (le-ltb (from + r) b over)
-
     never : (p : Bool) {q : Bool} → q ≡ false → (p && q) ≡ false
     never true e = e
     never false e = refl
-
--- where no row is of a cycle at which the test is active
-pub run_none : (t : ControlledTest) (columns column from count : ℕ) (text : List ℕ) → min t.end (from + count) ≤ max t.start from → ArePut (is_run column t) columns from count text text
-run_none t columns column from count text none = record {
-  long = refl;
-  bytes = λ r x h within. sym (cond-false (is_run column t (from + r) x) 49 (byte_at text columns r x) (no_run t.start t.end from count r x column none h));
-}
 
 -- ---- what is done in a spell
 
@@ -141,37 +101,6 @@ never true true = refl
 never true false = refl
 never false true = refl
 never false false = refl
-
-first_alone : (p q : Bool) → ((p && true) || (q && false)) ≡ p
-first_alone true true = refl
-first_alone true false = refl
-first_alone false true = refl
-first_alone false false = refl
-
-second_alone : (p q : Bool) → ((p && false) || (q && true)) ≡ q
-second_alone true true = refl
-second_alone true false = refl
-second_alone false true = refl
-second_alone false false = refl
-
--- a column by another name
-same_ones : (p q : ℕ → Bool) (columns row count : ℕ) (old new : List ℕ) → ((x : ℕ) → p x ≡ q x) → AreOnes p columns row count old new → AreOnes q columns row count old new
-same_ones p q columns row count old new same are = record {
-  long = are.long;
-  bytes = λ r x h. are.bytes r x h ∙ ap (λ b. cond (b && (leb row r && ltb r (row + count))) 49 (byte_at old columns r x)) (same x);
-}
-
-pub rest_put : (own : ModuleColumns) (columns row count : ℕ) (text : List ℕ) → AreOnes (does own action.Rest) columns row count text text
-rest_put own columns row count text = record {
-  long = refl;
-  bytes = λ r x h. ap (λ b. cond (b && (leb row r && ltb r (row + count))) 49 (byte_at text columns r x)) (sym (never (eqb x own.shift) (eqb x own.capture)));
-}
-
-pub shift_put : (own : ModuleColumns) (columns row count : ℕ) (old new : List ℕ) → AreOnes (λ x. eqb x own.shift) columns row count old new → AreOnes (does own action.Shift) columns row count old new
-shift_put own columns row count old new are = same_ones (λ x. eqb x own.shift) (does own action.Shift) columns row count old new (λ x. sym (first_alone (eqb x own.shift) (eqb x own.capture))) are
-
-pub capture_put : (own : ModuleColumns) (columns row count : ℕ) (old new : List ℕ) → AreOnes (λ x. eqb x own.capture) columns row count old new → AreOnes (does own action.Capture) columns row count old new
-capture_put own columns row count old new are = same_ones (λ x. eqb x own.capture) (does own action.Capture) columns row count old new (λ x. sym (second_alone (eqb x own.shift) (eqb x own.capture))) are
 
 -- ---- spell by spell
 
@@ -297,13 +226,3 @@ both_put t own columns column from count old now new tam run told = record {
     either true false v = refl
     either false true v = refl
     either false false v = refl
-
-pub run_alone : (t : ControlledTest) (own : ModuleColumns) (columns column from count : ℕ) (old new : List ℕ) → t.tam ≡ false → ArePut (is_run column t) columns from count old new → ArePut (tells column own t) columns from count old new
-run_alone t own columns column from count old new self run = record {
-  long = run.long;
-  bytes = λ r x h within. run.bytes r x h within ∙ ap (λ b. cond b 49 (byte_at old columns r x)) (rw self (alone (is_run column t (from + r) x)));
-}
-  where
-    alone : (p : Bool) → p ≡ (p || false)
-    alone true = refl
-    alone false = refl

@@ -6,25 +6,8 @@ use Rattle.live_tests.specs.Neighbours.{tests_of}
 use Rattle.exclusions.specs.Marks.{is_marked, is_in, next_of, LedTo, FirstStep, LastStep, AreMarked, AreAmong, IsFlood}
 use Rattle.exclusions.proofs.Marking.{pushed_in, last_in, in_pushed}
 
-not_marked : (n j : ℕ) → is_marked (replicate n false) j ≡ true → ⊥
-not_marked zero j h = absurd cc
-not_marked (suc n) zero h = absurd cc
-not_marked (suc n) (suc j) h = not_marked n j h
-
 only_one : (j x : ℕ) → is_in j (x ∷ []) ≡ true → j ≡ x
 only_one j x h = elim (in_pushed j x [] h) [ inl none ↦ absurd cc | inr same ↦ same ]
-
-pub flood_begins : (lists : List (List ℕ)) (from : ℕ) (marks : List Bool) (stack : List ℕ) → from < length lists → marks ≡ replicate (length lists) false → stack ≡ from ∷ [] → IsFlood lists from marks stack
-flood_begins lists from marks stack within are is = rw (are, is) (record {
-  long = length-replicate (length lists) false;
-  within = λ j h. let same : j ≡ from = only_one j from h in omega arith;
-  seen = λ j h. inl (only_one j from h);
-  sound = λ j h. absurd (not_marked (length lists) j h);
-  closed = λ i h. elim h [
-    | inl same ↦ inl (rw same (last_in from []))
-    | inr there ↦ absurd (not_marked (length lists) i there)
-  ];
-})
 
 via : (lists : List (List ℕ)) (from test j : ℕ) → (test ≡ from) ⊎ LedTo lists from test → is_in j (next_of lists test) ≡ true → LedTo lists from j
 via lists from test j (inl same) h = FirstStep j (rw same at h)

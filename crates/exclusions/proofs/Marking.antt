@@ -103,15 +103,3 @@ is_put tests i x old new stack rest within at inside free so_far = rw (longer te
   ];
   fewer = omega (arith, so_far.fewer, length_push rest x, unmarked-set new x inside free);
 })
-
-pub none_marked : (old : List Bool) (stack : List ℕ) → AreMarked [] old old stack stack
-none_marked old stack = record {
-  long = refl;
-  all = λ j h. absurd cc;
-  kept = λ j h. h;
-  only = λ j h. inl h;
-  stacked = λ j h. inl h;
-  still = λ j h. h;
-  from = λ j h. inl h;
-  fewer = omega arith;
-}

@@ -15,8 +15,3 @@ pub next_least : (first : ℕ) (steps : List (ℕ × ℕ)) (i least new : ℕ) (
 next_least first steps i least new d within was is =
     let more : map power (take (i + 1) steps) ≡ map power (take i steps) ++ (get_or steps i d).1 ∷ [] = ap (map power) (take_more steps i d within) ∙ map-append power (take i steps) (get_or steps i d ∷ []) in
     is ∙ ap (λ n. min n (get_or steps i d).1) was ∙ sym (smallest_push first (get_or steps i d).1 (map power (take i steps))) ∙ ap (λ xs. smallest (first ∷ xs)) (sym more)
-
--- the first one counts twice
-pub with_first : (s : ℕ × ℕ) (steps : List (ℕ × ℕ)) → smallest (s.1 ∷ map power (s ∷ steps)) ≡ smallest (map power (s ∷ steps))
-with_first s [] = omega arith
-with_first s (t ∷ steps) = omega arith

@@ -3,9 +3,6 @@ use Rattle.std.proofs.Common.{◌≡◌, ℕ, ◌+◌, ◌<◌, List, [], ◌∷
 use Rattle.std.proofs.lemmas.List.{append-nil, length-map, length-set, length-take, map-append, take_more, take_more_set}
 use Rattle.cycle_forms.specs.Rows.{IsPutAt}
 
-pub put_nothing : (at : ℕ) (text : List ℕ) → IsPutAt at [] at text text
-put_nothing at text = record { ends = omega arith; long = refl; stands = sym (append-nil (take at text)) }
-
 pub put_then : {at middle end : ℕ} {p q : List ℕ} {old now new : List ℕ} → IsPutAt at p middle old now → IsPutAt middle q end now new →
     IsPutAt at (p ++ q) end old new
 put_then {at} {middle} {end} {p} {q} {old} {now} {new} first second = record {

@@ -3,7 +3,7 @@ use Rattle.std.proofs.Common.{◌≡◌, ℕ, suc, ◌≤◌, ◌<◌, cond, Opt
 use Rattle.std.specs.Prelude.{slice_get, nat_lt}
 use Rattle.std.proofs.lemmas.Bool.{cases_lt, cases_eq, lt-ltb, le-ltb}
 use Rattle.soc_model.specs.Chips.{ModuleValue, SocValue, IsParent, level_at, parent_place}
-use Rattle.soc_model.proofs.Parents.{IsParent-from_place, IsParent-unique, levels-from_none}
+use Rattle.soc_model.proofs.Parents.{IsParent-from_place, levels-from_none}
 use Rattle.live_tests.specs.Parents.{HasParentAt}
 
 -- all modules behind the one at hand and before a place are of no smaller level than the one there; at the number of modules none is at hand
@@ -11,13 +11,6 @@ pub record IsLook (modules : List ModuleValue) (place at : ℕ) : Type 0 where
   pub within : at ≤ length modules
   pub earlier : at < length modules → at < place
   pub higher : (k : ℕ) → k < place → (at < length modules → at < k) → level_at modules place ≤ level_at modules k
-
-pub look_starts : (modules : List ModuleValue) (place at : ℕ) → at ≤ length modules → (at < length modules → at < place) → ((k : ℕ) → k < place → (k ≤ at) × (at < length modules)) → IsLook modules place at
-look_starts modules place at within earlier last = record {
-  within = within;
-  earlier = earlier;
-  higher = λ k less after. (let l = last k less in absurd (omega (arith, l.0, after l.1)));
-}
 
 -- where a module has no parent, none before it is of a smaller level
 no_parent : (soc : SocValue) (parents : List ℕ) (p : ℕ) (h : HasParentAt soc parents p) → p < length soc.modules → length soc.modules ≤ h.q → (k : ℕ) → k < p → level_at soc.modules p ≤ level_at soc.modules k
@@ -57,17 +50,6 @@ look_on soc parents place at next look there here earlier high read =
       | inl some ↦ (h.is some).nearest k (after some) less
       | inr none ↦ no_parent soc parents at h here none k less
     ]
-
--- the module at hand is of a smaller level: it is the parent
-pub look_finds : (modules : List ModuleValue) (place at : ℕ) → IsLook modules place at → at < length modules → level_at modules at < level_at modules place → IsParent modules at place
-look_finds modules place at look here low = record { earlier = look.earlier here; smaller = low; nearest = λ k after less. look.higher k less (λ l. after) }
-
-pub look_only : (modules : List ModuleValue) (place at r : ℕ) → IsLook modules place at → at < length modules → level_at modules at < level_at modules place → IsParent modules r place → r ≡ at
-look_only modules place at r look here low is = IsParent-unique modules r at place is (look_finds modules place at look here low)
-
--- none is left: there is no parent
-pub look_fails : (modules : List ModuleValue) (place at r : ℕ) → IsLook modules place at → place < length modules → length modules ≤ at → IsParent modules r place → ⊥
-look_fails modules place at r look there past is = omega (arith, is.smaller, look.higher r is.earlier (λ l. absurd (omega (arith, l, past))))
 
 -- each step goes back
 abbrev pub left_at : (count at : ℕ) → ℕ

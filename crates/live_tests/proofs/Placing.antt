@@ -57,21 +57,6 @@ position-numbers n ts = rw (first_of ts, length-map ts (λ (t : Test). t.number)
   first_of [] = refl
   first_of (t ∷ ts) = elim (cases_Bool (nat_eq n t.number)) [ inl yes' ↦ rw yes' refl | inr no' ↦ rw no' (ap (λ v. 1 + v) (first_of ts)) ]
 
-id_of_planned : (plan : PlanValue) (l : LiveTest) → (planned_test plan l.place l.core l.test).id ≡ id_of l
-unfolding planned_test
-id_of_planned plan l = refl
-
--- a planned test is found by its name, at the places of its module and of itself
-pub places_of_origin : (soc : SocValue) → IsSoundChip soc → (plan : PlanValue) (i : ℕ) (u : PlannedTest) (o : Origin soc plan i u) (q : ℕ) → slice_get o.l.core.tests q ≡ Some o.l.test → test_places soc u.id ≡ Some (o.l.place, q)
-places_of_origin soc sound plan i u o q at =
-    let keyed = IsKeyed-from_sound sound in
-    let placed = place-from_module keyed o.l.place o.l.core o.module_at in
-    let differ = (sound_module soc sound o.l.place o.l.core o.module_at).tests_differ in
-    let named : slice_get (map (λ (t : Test). t.number) o.l.core.tests) q ≡ Some o.l.test.number = slice_get-map (λ (t : Test). t.number) o.l.core.tests q ∙ ap (option_map (λ (t : Test). t.number)) at in
-    let found = position-numbers o.l.test.number o.l.core.tests ∙ position-from_slice_get (map (λ (t : Test). t.number) o.l.core.tests) o.l.test.number q differ named in
-    let id : u.id ≡ id_of o.l = ap (λ (t : PlannedTest). t.id) (sym o.is) ∙ id_of_planned plan o.l in
-    ap (test_places soc) id ∙ test_places-at soc (id_of o.l) o.l.place o.l.core placed o.module_at ∙ ap (option_map (λ (n : ℕ). (o.l.place, n))) found
-
 -- ---- what is placed of a test
 
 start_of_planned : (plan : PlanValue) (place : ℕ) (m : ModuleValue) (t : Test) → (planned_test plan place m t).start ≡ of_first (λ (s : TestId × ℕ). same_test s.0 (id_of (the_live place m t))) (λ s. s.1) 0 plan.starts

@@ -63,10 +63,6 @@ refused_long text long = rw (lt-ltb DATA_FILE_MOST (length text) long) refl
 taken_short : (text : List ℕ) → length text ≤ DATA_FILE_MOST → long_refusal text ≡ None
 taken_short text short = rw (le-ltb DATA_FILE_MOST (length text) short) refl
 
-pub made_written : (text : List ℕ) (size kb ka : ℕ) (old new : Option (List ℕ)) (end : Status) → size ≡ length text → size ≤ DATA_FILE_MOST → IsWritten Done text kb ka old end new → WritesUnless (long_refusal text) text kb ka old end new
-made_written text size kb ka old new end is short put =
-    subst (λ r. WritesUnless r text kb ka old end new) (sym (taken_short text (subst (λ n. n ≤ DATA_FILE_MOST) is short))) (inr put)
-
 pub long_written : (text : List ℕ) (size : ℕ) (made : Result (Vec ℕ) MemoryFault) (verdict : Verdict) (kb ka : ℕ) (old new : Option (List ℕ)) (end : Status) → size ≡ length text → DATA_FILE_MOST < size →
     IfOk made (λ line. line.items ≡ long_line size) → IfOk made (λ line. IsTrue (is_line line.items)) → GivesText Refused made verdict → Writes verdict kb ka old end new → WritesUnless (long_refusal text) text kb ka old end new
 long_written text size made verdict kb ka old new end is long line one given put =

@@ -84,11 +84,6 @@ next_self m ts i d within self =
     let more = rw self at (sum_by_more_le (λ t. if is_self t then t.patterns else 0) ts i d within) in
     omega (arith, more, self_times-le m ts)
 
-pub live_item-le : (m : ModuleValue) (ts : List Test) (i : ℕ) (d : Test) → i < length ts → is_live (get_or ts i d) ≡ true → test_work m (get_or ts i d) ≤ works_of m ts
-live_item-le m ts i d within live =
-    let more = rw live at (sum_by_more_le (λ t. if is_live t then test_work m t else 0) ts i d within) in
-    omega (arith, more)
-
 pub self_from : (t : Test) → is_live t ≡ true → t.tam ≡ false → is_self t ≡ true
 self_from t live self = rw (live, self) refl
 

@@ -21,12 +21,6 @@ between_at (a ∷ b ∷ rest) (suc k) h = between_at (b ∷ rest) k (omega (arit
     one_more : (n : ℕ) → suc (n + 1) ≡ suc n + 1
     one_more n = omega arith
 
-pub between_past : (xs : List ℕ) (k : ℕ) → length xs - 1 ≤ k → slice_get (between xs) k ≡ None
-between_past [] k h = refl
-between_past (a ∷ []) k h = refl
-between_past (a ∷ b ∷ rest) zero h = absurd (omega (arith, h))
-between_past (a ∷ b ∷ rest) (suc k) h = between_past (b ∷ rest) k (omega (arith, h))
-
 from_first : (ws firsts : List ℕ) (first : ℕ) → length firsts ≡ length ws + 1 → ((b : ℕ) → b ≤ length ws → slice_index firsts b ≡ first + sum (take b ws)) → between firsts ≡ wires_from first ws
 from_first [] [] first long each = absurd (omega (arith, long))
 from_first [] (a ∷ []) first long each = refl

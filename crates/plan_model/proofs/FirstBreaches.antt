@@ -24,8 +24,5 @@ each_more P xs n x h at here m y less at' = elim (cases_eq m n) [
 pub each_all : {X : Type 0} (P : List X → X → Type 0) (xs : List X) (n : ℕ) → length xs ≤ n → EachTo P xs n → Each P xs
 each_all P xs n all h m x at = h m x (omega (arith, slice_get_within xs m x at)) at
 
-pub each_to : {X : Type 0} (P : List X → X → Type 0) (xs : List X) (n : ℕ) → Each P xs → EachTo P xs n
-each_to P xs n h m x less at = h m x at
-
 pub first_here : {X : Type 0} (P : List X → X → Type 0) (xs : List X) (n : ℕ) (x : X) → EachTo P xs n → slice_get xs n ≡ Some x → (P (take n xs) x → ⊥) → IsFirstBreach P xs n x
 first_here P xs n x h at broken = record { there = at; breaks = broken; earlier = h }

@@ -64,22 +64,3 @@ falls limits c t h = go (cases_Bool (is_active (suc c) t)) where
     where
       earlier : t.start ≤ suc c → (t.start ≡ suc c → ⊥) → t.start ≤ c
       earlier begun other = elim (cases_eq t.start (suc c)) [ inl same ↦ absurd (other same) | inr apart ↦ omega (arith, apart) ]
-
-pub power_falls : (limits : LimitsValue) (tests : List PlannedTest) (c : ℕ) → list_any (is_event_of limits (suc c)) tests ≡ false → power_at limits tests (suc c) ≤ power_at limits tests c
-power_falls limits tests c h =
-    let a : power_at limits tests (suc c) ≡ sum_by (drawn limits (suc c)) tests = sum_by-filter (is_active (suc c)) (λ t. power_of limits t (suc c - t.start)) tests in
-    let b : power_at limits tests c ≡ sum_by (drawn limits c) tests = sum_by-filter (is_active c) (λ t. power_of limits t (c - t.start)) tests in
-    let le : sum_by (drawn limits (suc c)) tests ≤ sum_by (drawn limits c) tests = sum_by-le_at (drawn limits (suc c)) (drawn limits c) tests (λ i t e. falls limits c t (none_of (is_event_of limits (suc c)) tests h i t e)) in
-    omega arith
-
--- where the power passes a limit, it passes it at an event before or there, or at cycle 0
-pub event_before : (limits : LimitsValue) (tests : List PlannedTest) (most c : ℕ) → most < power_at limits tests c →
-    (d : ℕ) × (d ≤ c) × (most < power_at limits tests d) × ((d ≡ 0) ⊎ (list_any (is_event_of limits d) tests ≡ true))
-event_before limits tests most zero h = (0, omega arith, h, inl refl)
-event_before limits tests most (suc c) h = elim (cases_Bool (list_any (is_event_of limits (suc c)) tests)) [
-  | inl event ↦ (suc c, omega arith, h, inr event)
-  | inr none ↦
-      let fewer : power_at limits tests (suc c) ≤ power_at limits tests c = power_falls limits tests c none in
-      let r = event_before limits tests most c (omega arith) in
-      (r.0, omega (arith, r.1), r.2, r.3)
-]

@@ -30,11 +30,3 @@ tam_work-le soc sound p q m t at there live tam =
     let part : test_work m t ≤ work soc = test_work-le-at soc p q m t at there live in
     let all : work soc ≤ 10 ^ 18 = work-le soc sound.size in
     wires_work m t tam (omega arith)
-
--- the same by its place among the live tests
-pub tam_work-le_live : (soc : SocValue) → IsSoundChip soc → (k : ℕ) (l : LiveTest) → slice_get (live_tests soc) k ≡ Some l → l.test.tam ≡ true →
-    l.core.setup + l.test.patterns * module_size l.core ≤ 10 ^ 18
-tam_work-le_live soc sound k l at tam =
-    let part : test_work l.core l.test ≤ work soc = test_work-le soc k l at in
-    let all : work soc ≤ 10 ^ 18 = work-le soc sound.size in
-    wires_work l.core l.test tam (omega arith)

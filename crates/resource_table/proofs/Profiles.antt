@@ -284,10 +284,6 @@ raised_all d low high place are over = same_lists high (map (raised_by d) low) (
           | inr after ↦ are.rest k e after ∙ sym (raised_none d (get_or low k e) (none_taken d (get_or low k e).cycle (inr (over k e after inside)))) ∙ sym there
         ]
 
--- one point more
-raised_here : (d : Draw) (p : Point) → d.from ≤ p.cycle → p.cycle < d.to → (let q : Point = record { cycle = p.cycle; load = p.load + d.power; uses = p.uses } in q) ≡ raised_by d p
-raised_here d p from to = ap (λ (n : ℕ). (let q : Point = record { cycle = p.cycle; load = p.load + n; uses = p.uses } in q)) (sym (all_taken d p.cycle from to))
-
 pub lowered_more : (d : Draw) (low high : List Point) (place : ℕ) → AreRaised d low high place → place < length low → d.from ≤ (get_or high place no_point).cycle → (get_or high place no_point).cycle < d.to →
     taken_by (get_or high place no_point).cycle d ≤ (get_or high place no_point).load →
     AreRaised d (set low place (record { cycle = (get_or low place no_point).cycle; load = (get_or low place no_point).load - d.power; uses = (get_or low place no_point).uses })) high (place + 1)

@@ -43,7 +43,3 @@ pub checked_least : FaultlessAreRight → RightAreLong → (m : ModuleValue) (t 
     IfOk r (λ n. length (ops_of m.setup (si_of (wrapped_test m t w).chains) (so_of (wrapped_test m t w).chains) t.patterns) ≤ n)
 checked_least right law m t w entries (Ok n) live lasting is = omega (arith, is.operations, law m t w entries live lasting (right m t w entries live is.faultless))
 checked_least right law m t w entries (Err f) live lasting is = tt
-
-pub checked_only : OneFault → (m : ModuleValue) (t : Test) (w : WrapperValue) (entries : List Entry) (r : Result ℕ ProgramFault) → IsCounted m t w entries r → (f : ProgramFault) → IsFault (needed_for (wrapped_test m t w)) entries f → r ≡ Err f
-checked_only law m t w entries (Ok n) is f fault = absurd (is.faultless f fault.has)
-checked_only law m t w entries (Err g) is f fault = let same : g ≡ f = law (needed_for (wrapped_test m t w)) entries g f is.fault fault in cc

@@ -74,8 +74,3 @@ test_work-le-at soc p q m t at there live =
     omega arith
 
 -- ---- a chip that grows keeps small numbers
-
--- after `put`, by its clauses, whether the module was added or not
-pub HasSmallNumbers-put : {A E : Type 0} (r : Result A E) (old new : SocValue) (m : ModuleValue) → OnOk r (new ≡ record old { keys = old.keys ++ m.number ∷ []; modules = old.modules ++ m ∷ [] }) → OnErr r (new ≡ old) → HasSmallNumbers old → HasSmall m → HasSmallNumbers new
-HasSmallNumbers-put (Ok a) old new m ok err small own = subst HasSmallNumbers (sym ok) (All-push HasSmall old.modules m small own)
-HasSmallNumbers-put (Err e) old new m ok err small own = subst HasSmallNumbers (sym err) small

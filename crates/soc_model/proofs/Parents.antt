@@ -78,7 +78,3 @@ levels-from_none modules place e = greater-from modules (level_at modules place)
 -- the parent is found
 pub place-from_IsParent : (modules : List ModuleValue) (p place : ℕ) → IsParent modules p place → parent_place modules place ≡ Some p
 place-from_IsParent modules p place h = below-from modules (level_at modules place) place p (h.earlier, h.smaller, h.nearest)
-
--- a module has one parent
-pub IsParent-unique : (modules : List ModuleValue) (p q place : ℕ) → IsParent modules p place → IsParent modules q place → p ≡ q
-IsParent-unique modules p q place h k = same_Some p q (sym (place-from_IsParent modules p place h) ∙ place-from_IsParent modules q place k)

@@ -41,15 +41,6 @@ map_more f xs i d old new less so_far added =
     ∙ sym (map-append f (take i xs) (get_or xs i d ∷ []))
     ∙ ap (map f) (sym (take_more xs i d less))
 
--- the parts of one test more
-pub pieces_more : {Y : Type 0} (f : Cut × ℕ → Y) (cs : List Cut) (i : ℕ) (d : Cut) (old new : List Y) → i < length cs → old ≡ map f (pieces (take i cs)) → new ≡ old ++ map f (pieces_of (get_or cs i d)) → new ≡ map f (pieces (take (i + 1) cs))
-pieces_more f cs i d old new less so_far added =
-    added ∙ ap (λ l. l ++ map f (pieces_of (get_or cs i d))) so_far
-    ∙ sym (map-append f (pieces (take i cs)) (pieces_of (get_or cs i d)))
-    ∙ ap (λ (l : List (Cut × ℕ)). map f (pieces (take i cs) ++ l)) (sym (append-nil (pieces_of (get_or cs i d))))
-    ∙ ap (map f) (sym (flat_map-append pieces_of (take i cs) (get_or cs i d ∷ [])))
-    ∙ ap (λ (l : List Cut). map f (pieces l)) (sym (take_more cs i d less))
-
 -- one part more
 pub piece_more : {Y : Type 0} (f : Cut × ℕ → Y) (c : Cut) (k : ℕ) (start old new : List Y) → old ≡ start ++ map f (map (λ (k : ℕ). (c, k)) (range_with_len 0 k)) → new ≡ old ++ f (c, k) ∷ [] → new ≡ start ++ map f (map (λ (k : ℕ). (c, k)) (range_with_len 0 (k + 1)))
 piece_more f c k start old new so_far added =

@@ -42,9 +42,6 @@ same_place bytes es id = rw (place_of_name bytes es id, length-map es (entry_in 
 
 -- ---- names
 
-name_unknown : (soc : SocValue) (before ids : List TestId) (id : TestId) → is_some (wanted_by soc id) ≡ false → Some id ≡ misnamed_after soc before (id ∷ ids)
-name_unknown soc before ids id none = rw none refl
-
 and_not : (a b : Bool) → b ≡ true → (a && not b) ≡ false
 and_not true b e = rw e refl
 and_not false b e = refl
@@ -57,12 +54,6 @@ name_right soc before ids id some new = rw (some, new) refl
 
 rest_of_names : (es : List TestEntry) (i : ℕ) (e : TestEntry) → i < length es → e ≡ get_or es i e → kept_names (drop i es) ≡ e.test ∷ kept_names (drop (i + 1) es)
 rest_of_names es i e h is = ap kept_names (item_at es i e h is)
-
-pub unknown_at : (soc : SocValue) (es : List TestEntry) (i : ℕ) (e : TestEntry) (whole : Option TestId) → i < length es → e ≡ get_or es i e → whole ≡ misnamed_after soc (kept_names (take i es)) (kept_names (drop i es)) →
-    is_some (wanted_by soc e.test) ≡ false → Some e.test ≡ whole
-unknown_at soc es i e whole h is so_far none =
-    name_unknown soc (kept_names (take i es)) (kept_names (drop (i + 1) es)) e.test none
-    ∙ ap (misnamed_after soc (kept_names (take i es))) (sym (rest_of_names es i e h is)) ∙ sym so_far
 
 pub again_at : (soc : SocValue) (es : List TestEntry) (i : ℕ) (e : TestEntry) (whole : Option TestId) → i < length es → e ≡ get_or es i e → whole ≡ misnamed_after soc (kept_names (take i es)) (kept_names (drop i es)) →
     has_name (kept_names (take i es)) e.test ≡ true → Some e.test ≡ whole

@@ -58,13 +58,6 @@ lines_more_split f done count block is =
     let start : done ≡ 0 + done = omega arith in
     ap (λ v. flat_map f (range_with_len 0 done) ++ v) (is ∙ ap (λ n. flat_map f (range_with_len n count)) start) ∙ sym (lines_split f 0 done count)
 
--- a run that isn't too long
-pub not_too_long : (plan : PlanValue) (found : Option ℕ) → found ≡ too_many plan → found ≡ None → RUN_MOST < wire_cycles plan → ⊥
-not_too_long plan found is none long =
-    let some : too_many plan ≡ Some (wire_cycles plan) = rw (lt-ltb RUN_MOST (wire_cycles plan) long) refl in
-    let clash : None ≡ Some (wire_cycles plan) = sym none ∙ is ∙ some in
-    absurd cc
-
 -- ---- what is written of the same plan
 
 pub same_lines : (keys : Keys) (drive : ℕ → ℕ → ℕ → Bool) (mark : ℕ → ℕ → ℕ → ℕ) (soc soc' : SocValue) (plan plan' : PlanValue) (content : Content) (marks : Marks) (from count : ℕ) (text : List ℕ) → soc ≡ soc' → plan ≡ plan' → StandFor keys drive mark soc' content marks →

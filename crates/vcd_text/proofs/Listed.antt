@@ -147,9 +147,6 @@ listed_then a b c xs ys one two = record {
   first = two.first ∙ one.first;
 }
 
-pub listed_none : (a : Listing) → IsListed a a []
-listed_none a = record { text = sym (append-nil a.text.items); sources = sym (append-nil (control_sources a.places.items)); first = refl }
-
 -- variables that are left
 pub goes_on-begun : (a : Listing) (all : List Variable) → GoesOn a a all all
 goes_on-begun a all = record { text = refl; sources = refl; first = refl }
@@ -168,13 +165,6 @@ goes_on-next old now next xs rest all on listed = record {
       ∙ ap (λ t. control_sources now.places.items ++ t) (sym (map-append (λ (v : Variable). v.source) xs rest))
       ∙ on.sources;
   first = listed.first ∙ on.first;
-}
-
-pub goes_on-ended : (old now : Listing) (all : List Variable) → GoesOn old now [] all → IsListed old now all
-goes_on-ended old now all on = record {
-  text = sym (append-nil now.text.items) ∙ on.text;
-  sources = sym (append-nil (control_sources now.places.items)) ∙ on.sources;
-  first = on.first;
 }
 
 -- ---- scopes

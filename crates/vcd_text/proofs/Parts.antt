@@ -104,13 +104,6 @@ wire_sources-length n = wires-length-from 0 n
 
 -- ---- loops over them
 
--- the two lines of a wire
-pub pair_put : (p : Source → Bool) (row : CycleRow) (n at middle end : ℕ) (s t : Source) (old between new : List ℕ) → IsPutAt at (line_if p row n s) middle old between → IsPutAt middle (line_if p row (n + 1) t) end between new →
-    IsPutAt at (lines_of p row n (s ∷ t ∷ [])) end old new
-pair_put p row n at middle end s t old between new one two =
-    let e : lines_of p row n (s ∷ t ∷ []) ≡ line_if p row n s ++ line_if p row (n + 1) t = lines-cons p row n s (t ∷ []) ∙ ap (λ v. line_if p row n s ++ v) (lines-one p row (n + 1) t) in
-    subst (λ part. IsPutAt at part end old new) (sym e) (put_then at middle end (line_if p row n s) (line_if p row (n + 1) t) old between new one two)
-
 -- those of one wire more
 pub wire_put : (p : Source → Bool) (row : CycleRow) (w at middle end : ℕ) (old between new : List ℕ) → IsPutAt at (lines_of p row 0 (wire_sources w)) middle old between → IsPutAt middle (lines_of p row (2 * w) (sources_of_wire w)) end between new →
     IsPutAt at (lines_of p row 0 (wire_sources (w + 1))) end old new

@@ -170,13 +170,6 @@ few_taken c taken = elim (cases_Bool (takes_fewer c taken)) [
   | inr no' ↦ rw no' (omega arith)
 ]
 
-pub some_taken : (c : Choice) (taken : List Choice) → 1 ≤ length (with_choice c taken)
-some_taken c [] = omega arith
-some_taken c (d ∷ ds) = elim (cases_Bool (takes_fewer c (d ∷ ds))) [
-  | inl yes' ↦ rw yes' (omega arith)
-  | inr no' ↦ rw no' (omega arith)
-]
-
 -- the last choice that is taken at a width, from the one before it
 pub choose : (m : ModuleValue) (scan : Bool) (w : ℕ) (c : Choice) (taken : List Choice) → 1 ≤ w → c.width ≡ w → c.cycles ≡ mode_time m scan w → c.cycles ≤ 10 ^ 18 → HasPaths (mode_of m scan) c →
     (1 < w → (b : Choice) × (last_of taken ≡ Some b) × IsChoice m scan (w - 1) b) → (w ≤ 1 → taken ≡ []) → (b : Choice) × (last_of (with_choice c taken) ≡ Some b) × IsChoice m scan w b
