@@ -1,5 +1,5 @@
 -- The live tests of a plan are placed module by module, and found by name.
-use Rattle.std.proofs.Common.{◌≡◌, inl, inr, ℕ, zero, suc, ◌+◌, ◌^◌, ◌≤◌, ◌<◌, Bool, true, false, cond, Option, None, Some, List, [], ◌∷◌, ◌++◌, length, get_or, map, drop, position, option_map, refl, sym, ap, subst, ◌∙◌, append_assoc, append-nil, true≢false, arith}
+use Rattle.std.proofs.Common.{◌≡◌, inl, inr, ℕ, zero, suc, ◌+◌, ◌^◌, ◌≤◌, ◌<◌, true, false, Option, None, Some, List, [], ◌∷◌, ◌++◌, length, get_or, map, drop, position, option_map, refl, sym, ap, subst, ◌∙◌, append_assoc, append-nil, true≢false, arith}
 use Rattle.std.specs.Prelude.{slice_get, find, nat_eq, nat_lt}
 use Rattle.std.specs.List.{filter, position_or_len}
 use Rattle.std.proofs.lemmas.Bool.{cases_Bool, leb-true}
@@ -10,19 +10,17 @@ use Rattle.std.proofs.lemmas.Option.{slice_get-map, slice_get-get_or, slice_get_
 use Rattle.soc_model.specs.declared.Test.{Test}
 use Rattle.soc_model.specs.declared.TestId.{TestId}
 use Rattle.soc_model.specs.Chips.{ModuleValue, SocValue, LiveTest, is_live, live_of, live_from, live_tests, id_of, same_test}
-use Rattle.plan_model.specs.Plans.{PlanValue, LimitsValue, PlannedTest, planned, planned_test, chains_of, operations_of, end_of, greatest, bus_place, of_first, wraps}
+use Rattle.plan_model.specs.Plans.{PlanValue, LimitsValue, planned, planned_test, chains_of, operations_of, end_of, greatest, bus_place, of_first, wraps}
 use Rattle.plan_model.specs.Rules.{Each, IsGood, HasWrapper, Cycles, live_ids, used_pairs}
 use Rattle.plan_model.specs.Operations.{ops_of}
 use Rattle.plan_model.proofs.Finding.{none_passes}
 use Rattle.plan_model.proofs.Greatest.{le-greatest_at}
 use Rattle.plan_model.proofs.Lists.{in_append_right}
 use Rattle.plan_model.proofs.SoundChips.{tam_work-le}
-use Rattle.plan_model.proofs.PlannedTests.{Origin, Wrapped, wrapped_by, wraps_from}
-use Rattle.soc_model.specs.Lookups.{test_places}
+use Rattle.plan_model.proofs.PlannedTests.{Wrapped, wrapped_by, wraps_from}
 use Rattle.soc_model.specs.SoundChips.{IsSoundChip, IsSoundModule}
 use Rattle.soc_model.proofs.Limits.{modules-small}
 use Rattle.soc_model.proofs.Sums.{IsSmall}
-use Rattle.soc_model.proofs.Places.{IsKeyed-from_sound, place-from_module, test_places-at, position-from_slice_get}
 use Rattle.live_tests.specs.declared.placed.PlacedTest.{PlacedTest}
 use Rattle.live_tests.specs.Placed.{bus_over, is_called, placed_in, placed_of, placed_tests}
 use Rattle.live_tests.specs.declared.wrapped.ModeWrapper.{ModeWrapper}

@@ -8,3 +8,4 @@ pub mod Wires
 pub mod Reads
 pub mod Parents
 pub mod Resolved
+pub mod Problems
