@@ -5,6 +5,10 @@ use Rattle.outside.specs.Held.{Appended, AppendedFront}
 use Rattle.commands.specs.Progress.{ReportsDownTo}
 use Rattle.commands.specs.Progress.ReportsDownTo.{begins, reports}
 
+-- all of a text is a front of it
+pub all_is_front : (old new : Option (List ℕ)) (text : List ℕ) → Appended old text new → AppendedFront old text new
+all_is_front old new text all = (length text, omega arith, subst (λ (front : List ℕ). Appended old front new) (sym (take-length text)) all)
+
 -- at first the whole is left
 pub begun : (May : ℕ → (old new : Option (List ℕ)) → Type 0) (whole part : ℕ) (first : Option (List ℕ)) → ReportsDownTo May whole part first whole first
 begun May whole part first = begins

@@ -187,13 +187,69 @@ noted_told soc items limits pairs is noted =
 
 -- ---- what is noted of an item
 
+-- what a look-up says of the chip
+unknown_if : {X Y : Type 0} (f : X → Y) (o : Option X) → option_map f o ≡ None → is_some o ≡ false
+unknown_if f None e = refl
+unknown_if f (Some x) e = cc
+
+known_if : {X Y : Type 0} (y z : Y) (o : Option X) → option_map (λ x. y) o ≡ Some z → (is_some o ≡ true) × (z ≡ y)
+known_if y z None e = cc
+known_if y z (Some x) e = (refl, sym (same_Some y z e))
+
 -- the line of an item, by whether its tests are known
 line_first : (x y : Bool) (line : ℕ) → x ≡ false → line_if (not (x && y)) line ≡ Some line
 line_first x y line e = rw e refl
 
+line_second : (x y : Bool) (line : ℕ) → y ≡ false → line_if (not (x && y)) line ≡ Some line
+line_second true y line e = rw e refl
+line_second false y line e = refl
+
+line_none : (x y : Bool) (line : ℕ) → x ≡ true → y ≡ true → line_if (not (x && y)) line ≡ None
+line_none x y line e f = rw (e, f) refl
+
+line_one : (x b : Bool) (line : ℕ) → x ≡ b → line_if (not x) line ≡ line_if (not b) line
+line_one x b line e = ap (λ (v : Bool). line_if (not v) line) e
+
+pub first_unknown_of : (soc : SocValue) (line : ℕ) (a b : TestId) (o : Option (Option ℕ)) → o ≡ named soc a → o ≡ None → unknown_line soc (before_item line a b) ≡ Some line
+first_unknown_of soc line a b o is none = line_first (is_known soc a) (is_known soc b) line (unknown_if (λ (p : ℕ × ℕ). position (same_test a) (live_ids soc)) (test_places soc a) (sym is ∙ none))
+
+pub second_unknown_of : (soc : SocValue) (line : ℕ) (a b : TestId) (o : Option (Option ℕ)) → o ≡ named soc b → o ≡ None → unknown_line soc (before_item line a b) ≡ Some line
+second_unknown_of soc line a b o is none = line_second (is_known soc a) (is_known soc b) line (unknown_if (λ (p : ℕ × ℕ). position (same_test b) (live_ids soc)) (test_places soc b) (sym is ∙ none))
+
+pub both_known : (soc : SocValue) (line : ℕ) (a b : TestId) (o p : Option (Option ℕ)) (i j : Option ℕ) → o ≡ named soc a → p ≡ named soc b → o ≡ Some i → p ≡ Some j → (unknown_line soc (before_item line a b) ≡ None) × (pair_of soc (before_item line a b) ≡ both_places i j)
+both_known soc line a b o p i j is_a is_b at_a at_b =
+    let x = known_if (position (same_test a) (live_ids soc)) i (test_places soc a) (sym is_a ∙ at_a) in
+    let y = known_if (position (same_test b) (live_ids soc)) j (test_places soc b) (sym is_b ∙ at_b) in
+    (line_none (is_known soc a) (is_known soc b) line x.0 y.0, sym (ap (λ m. both_places m j) x.1 ∙ ap (both_places (position (same_test a) (live_ids soc))) y.1))
+
 same_some : {X Y : Type 0} (f : X → Y) (o : Option X) → is_some o ≡ is_some (option_map f o)
 same_some f None = refl
 same_some f (Some x) = refl
+
+same_known : (soc : SocValue) (id : TestId) (o : Option (Option ℕ)) → o ≡ named soc id → is_known soc id ≡ is_some o
+same_known soc id o is = same_some (λ (p : ℕ × ℕ). position (same_test id) (live_ids soc)) (test_places soc id) ∙ ap is_some (sym is)
+
+pub profile_unknown : (soc : SocValue) (line : ℕ) (id : TestId) (steps : List (ℕ × ℕ)) (o : Option (Option ℕ)) → o ≡ named soc id → o ≡ None → unknown_line soc (profile_item line id steps) ≡ Some line
+profile_unknown soc line id steps o is none = line_one (is_known soc id) false line (same_known soc id o is ∙ ap is_some none)
+
+pub profile_known : (soc : SocValue) (line : ℕ) (id : TestId) (steps : List (ℕ × ℕ)) (o : Option (Option ℕ)) (p : Option ℕ) → o ≡ named soc id → o ≡ Some p → unknown_line soc (profile_item line id steps) ≡ None
+profile_known soc line id steps o p is some = line_one (is_known soc id) true line (same_known soc id o is ∙ ap is_some some)
+
+-- a precedence of tests of the chip, of which one isn't live, or both are
+pub known_first : (soc : SocValue) (line : ℕ) (a b : TestId) (o p : Option (Option ℕ)) (i j : Option ℕ) (old : List (ℕ × ℕ)) → o ≡ named soc a → p ≡ named soc b → o ≡ Some i → p ≡ Some j → i ≡ None → (unknown_line soc (before_item line a b) ≡ None) × (old ≡ old ++ pair_of soc (before_item line a b))
+known_first soc line a b o p i j old is_a is_b at_a at_b none =
+    let both = both_known soc line a b o p i j is_a is_b at_a at_b in
+    (both.0, sym (ap (λ l. old ++ l) (both.1 ∙ ap (λ m. both_places m j) none) ∙ append-nil old))
+
+pub known_second : (soc : SocValue) (line : ℕ) (a b : TestId) (o p : Option (Option ℕ)) (i j : Option ℕ) (m : ℕ) (old : List (ℕ × ℕ)) → o ≡ named soc a → p ≡ named soc b → o ≡ Some i → p ≡ Some j → i ≡ Some m → j ≡ None → (unknown_line soc (before_item line a b) ≡ None) × (old ≡ old ++ pair_of soc (before_item line a b))
+known_second soc line a b o p i j m old is_a is_b at_a at_b some none =
+    let both = both_known soc line a b o p i j is_a is_b at_a at_b in
+    (both.0, sym (ap (λ l. old ++ l) (both.1 ∙ ap (λ m. both_places m j) some ∙ ap (both_places (Some m)) none) ∙ append-nil old))
+
+pub known_both : (soc : SocValue) (line : ℕ) (a b : TestId) (o p : Option (Option ℕ)) (i j : Option ℕ) (m n : ℕ) (old new : List (ℕ × ℕ)) → o ≡ named soc a → p ≡ named soc b → o ≡ Some i → p ≡ Some j → i ≡ Some m → j ≡ Some n → new ≡ old ++ (m, n) ∷ [] → (unknown_line soc (before_item line a b) ≡ None) × (new ≡ old ++ pair_of soc (before_item line a b))
+known_both soc line a b o p i j m n old new is_a is_b at_a at_b first second pushed =
+    let both = both_known soc line a b o p i j is_a is_b at_a at_b in
+    (both.0, pushed ∙ sym (ap (λ l. old ++ l) (both.1 ∙ ap (λ m. both_places m j) first ∙ ap (both_places (Some m)) second)))
 
 -- ---- what is noted of items
 

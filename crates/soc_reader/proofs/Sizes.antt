@@ -31,3 +31,11 @@ named-sized test w own = among test keywords w own
 -- of a word of a length
 pub of_length : (n : ℕ) (w : List ℕ) (o : Option Key) → o ≡ named (sized (nat_eq n)) w → length w ≡ n → o ≡ named keywords w
 of_length n w o is long = is ∙ sym (named-sized (nat_eq n) w (ap (nat_eq n) long ∙ same_number n))
+
+-- of a longer word
+pub of_more : (w : List ℕ) (o : Option Key) → o ≡ named (sized (nat_le 8)) w → 7 < length w → o ≡ named keywords w
+of_more w o is long = is ∙ sym (named-sized (nat_le 8) w (grind (arith, common_steps)))
+
+-- of a shorter word
+pub of_fewer : (w : List ℕ) → length w < 4 → None ≡ named keywords w
+of_fewer w short = sym (named-sized (λ n. nat_le n 3) w (grind (arith, common_steps)))
