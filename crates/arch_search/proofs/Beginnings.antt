@@ -1,17 +1,16 @@
 -- What a search begins with.
-use Rattle.std.proofs.Common.{◌≡◌, ◌∙◌, ◌<◌, ◌≤◌, ℕ, Option, None, List, length, replicate, arith, sym, ap, subst}
-use Rattle.std.specs.List.{All}
+use Rattle.std.proofs.Common.{◌≡◌, ◌∙◌, ◌<◌, ◌≤◌, ℕ, Option, None, List, length, replicate, arith, sym, ap, subst, All}
 use Rattle.std.proofs.lemmas.List.{length-replicate}
 use Rattle.std.proofs.lemmas.List.Elements.{All-replicate}
 use Rattle.std.proofs.lemmas.List.Folds.{sum_by-replicate}
 use Rattle.plan_model.specs.declared.TheConstants.{START_MOST}
 use Rattle.arch_search.specs.declared.buses.Buses.{Buses}
-use Rattle.arch_search.specs.declared.problem.Problem.{Problem}
-use Rattle.arch_search.specs.declared.room.Room.{Room}
+use Rattle.arch_search.specs.declared.problem.TimedTests.{TimedTests}
+use Rattle.arch_search.specs.declared.room.ScheduleRoom.{ScheduleRoom}
 use Rattle.arch_search.specs.Problems.{AreFirstBuses}
 use Rattle.arch_search.specs.Rooms.{IsSlot, HasRoom}
 
-pub empty_room : (tests n m : ℕ) (r : Room) → r.slots.items ≡ replicate tests None → r.cycles.items ≡ replicate tests 0 → r.chains.items ≡ replicate tests 0 → r.starts.items ≡ replicate tests 0 →
+pub empty_room : (tests n m : ℕ) (r : ScheduleRoom) → r.slots.items ≡ replicate tests None → r.cycles.items ≡ replicate tests 0 → r.chains.items ≡ replicate tests 0 → r.starts.items ≡ replicate tests 0 →
     length r.keys.items ≡ n → length r.second.items ≡ m → All (λ test. test < m) r.second.items → n ≡ tests → m ≡ tests → HasRoom tests r
 empty_room tests n m r slots cycles chains starts keys second in_second n_is m_is = record {
   slots = ap length slots ∙ length-replicate tests None;
@@ -25,7 +24,7 @@ empty_room tests n m r slots cycles chains starts keys second in_second n_is m_i
   small_starts = subst (λ (l : List ℕ). All (λ s. s ≤ START_MOST) l) (sym starts) (All-replicate (λ s. s ≤ START_MOST) tests 0 (omega arith));
 }
 
-pub first_are : (p : Problem) (b : Buses) (n : ℕ) → 1 ≤ p.wires → b.widths.items ≡ replicate p.wires 0 → b.slots.items ≡ replicate n 0 → b.loads.items ≡ replicate p.wires 0 → n ≡ length p.modules.items → AreFirstBuses p b p.wires
+pub first_are : (p : TimedTests) (b : Buses) (n : ℕ) → 1 ≤ p.wires → b.widths.items ≡ replicate p.wires 0 → b.slots.items ≡ replicate n 0 → b.loads.items ≡ replicate p.wires 0 → n ≡ length p.modules.items → AreFirstBuses p b p.wires
 first_are p b n some widths slots loads modules =
     let long : length b.widths.items ≡ p.wires = ap length widths ∙ length-replicate p.wires 0 in
     record {

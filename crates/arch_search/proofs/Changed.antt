@@ -1,15 +1,14 @@
 -- A state of which the order or the buses are others, and a search with it.
-use Rattle.std.proofs.Common.{◌≡◌, ◌∙◌, ℕ, ◌<◌, List, length, sym, ap, subst}
-use Rattle.std.specs.List.{All}
+use Rattle.std.proofs.Common.{◌≡◌, ◌∙◌, ℕ, ◌<◌, List, length, sym, ap, subst, All}
 use Rattle.std.proofs.lemmas.List.{length-map}
 use Rattle.live_tests.specs.declared.neighbours.Neighbours.{Neighbours}
 use Rattle.resource_table.specs.Befores.{listed}
 use Rattle.resource_table.specs.Jobs.{JobValue}
 use Rattle.resource_table.specs.Schedules.{TableValue}
 use Rattle.arch_search.specs.declared.buses.Buses.{Buses}
-use Rattle.arch_search.specs.declared.dealing.Taken.{Taken}
-use Rattle.arch_search.specs.declared.problem.Problem.{Problem}
-use Rattle.arch_search.specs.declared.room.Room.{Room}
+use Rattle.arch_search.specs.declared.dealing.DealtModule.{DealtModule}
+use Rattle.arch_search.specs.declared.problem.TimedTests.{TimedTests}
+use Rattle.arch_search.specs.declared.room.ScheduleRoom.{ScheduleRoom}
 use Rattle.arch_search.specs.declared.setting.SearchSetting.{SearchSetting}
 use Rattle.arch_search.specs.declared.state.State.{State}
 use Rattle.arch_search.specs.declared.times.Times.{Times}
@@ -18,19 +17,19 @@ use Rattle.arch_search.specs.Searches.{IsSearch}
 use Rattle.arch_search.specs.States.{AreBuses, AreAlike, AreTimesOn, IsTaken}
 
 -- there is a list of what precedes it for each test
-pub before_long : (job : JobValue) (p : Problem) (before : List Neighbours) → before ≡ p.before.items → IsProblem job p → length before ≡ length p.tests.items
+pub before_long : (job : JobValue) (p : TimedTests) (before : List Neighbours) → before ≡ p.before.items → IsProblem job p → length before ≡ length p.tests.items
 before_long job p before is problem = ap length is ∙ sym (length-map p.before.items listed) ∙ problem.before.long ∙ sym problem.tests
 
 -- the order of a state is one of tests with such lists
-pub order_before : (job : JobValue) (p : Problem) (s : State) (before : List Neighbours) → before ≡ p.before.items → IsProblem job p → IsStateOf p s → All (λ test. test < length before) s.order.items
+pub order_before : (job : JobValue) (p : TimedTests) (s : State) (before : List Neighbours) → before ≡ p.before.items → IsProblem job p → IsStateOf p s → All (λ test. test < length before) s.order.items
 order_before job p s before is problem state = subst (λ (n : ℕ). All (λ test. test < n) s.order.items) (sym (before_long job p before is problem)) state.within
 
 -- such an order is one of the tests
-pub order_within : (job : JobValue) (p : Problem) (before : List Neighbours) (order : List ℕ) → before ≡ p.before.items → IsProblem job p → All (λ test. test < length before) order → All (λ test. test < length p.tests.items) order
+pub order_within : (job : JobValue) (p : TimedTests) (before : List Neighbours) (order : List ℕ) → before ≡ p.before.items → IsProblem job p → All (λ test. test < length before) order → All (λ test. test < length p.tests.items) order
 order_within job p before order is problem all = subst (λ (n : ℕ). All (λ test. test < n) order) (before_long job p before is problem) all
 
 -- a state in another such order
-pub state_ordered : (job : JobValue) (p : Problem) (s t : State) (before : List Neighbours) → before ≡ p.before.items → IsProblem job p → IsStateOf p s → t.buses ≡ s.buses → length t.order.items ≡ length s.order.items →
+pub state_ordered : (job : JobValue) (p : TimedTests) (s t : State) (before : List Neighbours) → before ≡ p.before.items → IsProblem job p → IsStateOf p s → t.buses ≡ s.buses → length t.order.items ≡ length s.order.items →
     All (λ test. test < length before) t.order.items → IsStateOf p t
 state_ordered job p s t before is problem state same long within = record {
   buses = subst (λ (b : Buses). AreBuses b) (sym same) state.buses;
@@ -41,7 +40,7 @@ state_ordered job p s t before is problem state same long within = record {
 }
 
 -- a state on other buses
-pub state_on : (p : Problem) (s t : State) → IsStateOf p s → AreBuses t.buses → AreAlike s.buses t.buses → t.order ≡ s.order → IsStateOf p t
+pub state_on : (p : TimedTests) (s t : State) → IsStateOf p s → AreBuses t.buses → AreAlike s.buses t.buses → t.order ≡ s.order → IsStateOf p t
 state_on p s t state buses alike same = record {
   buses = buses;
   as_many_slots = alike.widths ∙ state.as_many_slots;
@@ -59,11 +58,11 @@ pub times_alike : (a b : Buses) (t : Times) → AreAlike a b → AreTimesOn a t 
 times_alike a b t alike on = record { times = on.times; wires = on.wires ∙ sym alike.widths; modules = on.modules ∙ sym alike.slots }
 
 -- modules that are taken off the buses of a state
-pub taken_for : (p : Problem) (s : State) (taken : List Taken) → IsStateOf p s → All (IsTaken (length s.buses.widths.items) (length s.buses.slots.items)) taken → All (IsTaken p.wires (length p.modules.items)) taken
+pub taken_for : (p : TimedTests) (s : State) (taken : List DealtModule) → IsStateOf p s → All (IsTaken (length s.buses.widths.items) (length s.buses.slots.items)) taken → All (IsTaken p.wires (length p.modules.items)) taken
 taken_for p s taken state all = subst (λ (n : ℕ). All (IsTaken p.wires n) taken) state.as_many_modules (subst (λ (w : ℕ). All (IsTaken w (length s.buses.slots.items)) taken) state.as_many_slots all)
 
 -- a search with another next state, and other modules that are taken
-pub search_next : (s : SearchSetting) (table : TableValue) (room : Room) (taken taken2 : List Taken) (less : List ℕ) (best current next next2 : State) → IsSearch s table room taken less best current next →
+pub search_next : (s : SearchSetting) (table : TableValue) (room : ScheduleRoom) (taken taken2 : List DealtModule) (less : List ℕ) (best current next next2 : State) → IsSearch s table room taken less best current next →
     All (IsTaken s.problem.now.wires (length s.problem.now.modules.items)) taken2 → IsStateOf s.problem.now next2 → IsSearch s table room taken2 less best current next2
 search_next s table room taken taken2 less best current next next2 is are state = record {
   setting = is.setting;
@@ -78,7 +77,7 @@ search_next s table room taken taken2 less best current next next2 is are state 
 }
 
 -- a search with another next state, and other loads on one wire less
-pub search_fit : (s : SearchSetting) (table : TableValue) (room : Room) (taken : List Taken) (less less2 : List ℕ) (best current next next2 : State) → IsSearch s table room taken less best current next →
+pub search_fit : (s : SearchSetting) (table : TableValue) (room : ScheduleRoom) (taken : List DealtModule) (less less2 : List ℕ) (best current next next2 : State) → IsSearch s table room taken less best current next →
     length less2 ≡ length less → IsStateOf s.problem.now next2 → IsSearch s table room taken less2 best current next2
 search_fit s table room taken less less2 best current next next2 is long state = record {
   setting = is.setting;

@@ -1,7 +1,5 @@
 -- The tests that are listed for a search, module by module.
-use Rattle.std.proofs.Common.{◌≡◌, cond, ℕ, suc, ◌+◌, ◌<◌, ◌≤◌, Option, None, Some, List, [], ◌∷◌, ◌++◌, length, get_or, take, drop, map, arith, sym, ap, ◌∙◌, subst, length-append, drop-cons}
-use Rattle.std.specs.Prelude.{IfSome, slice_get, if◌then◌else◌}
-use Rattle.std.specs.List.{All, Contains, filter}
+use Rattle.std.proofs.Common.{◌≡◌, cond, ℕ, suc, ◌+◌, ◌<◌, ◌≤◌, Option, None, Some, List, [], ◌∷◌, ◌++◌, length, get_or, take, drop, map, arith, sym, ap, ◌∙◌, subst, length-append, drop-cons, IfSome, slice_get, if◌then◌else◌, All, Contains, filter}
 use Rattle.std.proofs.Math.ListN.{drop_of_length-le}
 use Rattle.std.proofs.lemmas.List.{length-map, length_push}
 use Rattle.std.proofs.lemmas.List.Filters.{length-filter_more}

@@ -1,12 +1,11 @@
 -- Room of which lists are written over, or are others.
-use Rattle.std.proofs.Common.{◌≡◌, ◌∙◌, ℕ, ◌<◌, List, length, sym, ap, subst}
+use Rattle.std.proofs.Common.{◌≡◌, ◌∙◌, ℕ, ◌<◌, List, length, sym, ap, subst, All}
 use Rattle.std.specs.Global.{Vec}
-use Rattle.std.specs.List.{All}
 use Rattle.std.specs.List.Sorted.{IsPermutation}
 use Rattle.std.specs.Vec.{with_items}
 use Rattle.std.proofs.lemmas.List.{with_items_is}
 use Rattle.std.proofs.lemmas.List.Sorted.{All-permutation, length_permutation}
-use Rattle.arch_search.specs.declared.room.Room.{Room}
+use Rattle.arch_search.specs.declared.room.ScheduleRoom.{ScheduleRoom}
 use Rattle.arch_search.specs.declared.sorting.Keyed.{Keyed}
 use Rattle.arch_search.specs.Rooms.{HasRoom}
 
@@ -15,7 +14,7 @@ pub as_long : {X : Type 0} (v : Vec X) (items : List X) → length (with_items v
 as_long v items = sym (with_items v items).ok.0 ∙ v.ok.0
 
 -- room with other chains
-pub with_chains : (tests : ℕ) (r : Room) (chains : List ℕ) → HasRoom tests r → HasRoom tests (record r { chains = with_items r.chains chains })
+pub with_chains : (tests : ℕ) (r : ScheduleRoom) (chains : List ℕ) → HasRoom tests r → HasRoom tests (record r { chains = with_items r.chains chains })
 with_chains tests r chains has = record {
   slots = has.slots;
   cycles = has.cycles;
@@ -29,7 +28,7 @@ with_chains tests r chains has = record {
 }
 
 -- room with another order of the tests
-pub with_second : (tests : ℕ) (r : Room) (v order : Vec ℕ) → v ≡ order → HasRoom tests r → length order.items ≡ tests → All (λ test. test < tests) order.items → HasRoom tests (record r { second = v })
+pub with_second : (tests : ℕ) (r : ScheduleRoom) (v order : Vec ℕ) → v ≡ order → HasRoom tests r → length order.items ≡ tests → All (λ test. test < tests) order.items → HasRoom tests (record r { second = v })
 with_second tests r v order is has long within = record {
   slots = has.slots;
   cycles = has.cycles;
@@ -54,7 +53,7 @@ places_sorted tests v chains keys from sorted lent chains_long keys_long places 
     subst (λ (l : List Keyed). All (λ (k : Keyed). k.place < tests) l) (sym is) sorted_all
 
 -- room with other keys, and an order that was written from them
-pub with_keys : (tests : ℕ) (r : Room) (keys sorted : List Keyed) (order : List ℕ) → length order ≡ length r.second.items → All (λ test. test < tests) order → HasRoom tests r →
+pub with_keys : (tests : ℕ) (r : ScheduleRoom) (keys sorted : List Keyed) (order : List ℕ) → length order ≡ length r.second.items → All (λ test. test < tests) order → HasRoom tests r →
     HasRoom tests (record r { keys = with_items (with_items r.keys keys) sorted; second = with_items r.second order })
 with_keys tests r keys sorted order long within has = record {
   slots = has.slots;

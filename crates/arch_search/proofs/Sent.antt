@@ -3,13 +3,13 @@ use Rattle.std.proofs.Common.{ℕ, Option, List, length, map, sym, ◌∙◌, su
 use Rattle.resource_table.specs.Befores.{listed}
 use Rattle.resource_table.specs.Jobs.{JobValue, job_over}
 use Rattle.resource_table.proofs.Restarts.{length-tests_over}
-use Rattle.arch_search.specs.declared.problem.Problem.{Problem}
-use Rattle.arch_search.specs.declared.room.Room.{Room}
+use Rattle.arch_search.specs.declared.problem.TimedTests.{TimedTests}
+use Rattle.arch_search.specs.declared.room.ScheduleRoom.{ScheduleRoom}
 use Rattle.arch_search.specs.Problems.{IsProblem}
 use Rattle.arch_search.specs.Rooms.{HasRoom, HasRoomFor}
 use Rattle.arch_search.proofs.OtherBuses.{listed_over}
 
-pub problem_over : (buses : List (Option ℕ)) (lengths : List ℕ) (job : JobValue) (p : Problem) → IsProblem job p → IsProblem (job_over buses lengths job) p
+pub problem_over : (buses : List (Option ℕ)) (lengths : List ℕ) (job : JobValue) (p : TimedTests) → IsProblem job p → IsProblem (job_over buses lengths job) p
 problem_over buses lengths job p problem = record {
   some_wires = problem.some_wires;
   few_wires = problem.few_wires;
@@ -18,8 +18,8 @@ problem_over buses lengths job p problem = record {
   before = listed_over buses lengths job (map listed p.before.items) problem.before;
 }
 
-pub room_in : (job : JobValue) (p : Problem) (r : Room) → IsProblem job p → HasRoomFor p r → HasRoom (length job.tests) r
+pub room_in : (job : JobValue) (p : TimedTests) (r : ScheduleRoom) → IsProblem job p → HasRoomFor p r → HasRoom (length job.tests) r
 room_in job p r problem room = subst (λ (n : ℕ). HasRoom n r) problem.tests room
 
-pub room_back : (job : JobValue) (p : Problem) (r : Room) → IsProblem job p → HasRoom (length job.tests) r → HasRoomFor p r
+pub room_back : (job : JobValue) (p : TimedTests) (r : ScheduleRoom) → IsProblem job p → HasRoom (length job.tests) r → HasRoomFor p r
 room_back job p r problem room = subst (λ (n : ℕ). HasRoom n r) (sym problem.tests) room

@@ -6,7 +6,7 @@ use Rattle.resource_table.specs.Jobs.{JobValue}
 use Rattle.resource_table.specs.Befores.{listed, AreListed}
 use Rattle.arch_search.specs.declared.buses.Buses.{Buses}
 use Rattle.arch_search.specs.declared.problem.TestTimes.{TestTimes}
-use Rattle.arch_search.specs.declared.problem.Problem.{Problem}
+use Rattle.arch_search.specs.declared.problem.TimedTests.{TimedTests}
 use Rattle.arch_search.specs.declared.state.State.{State}
 use Rattle.arch_search.specs.States.{IsState}
 
@@ -16,7 +16,7 @@ pub record IsTimed (wires modules : ℕ) (t : TestTimes) : Type 0 where
   pub within : IfSome t.«module» (λ m. m < modules)
 
 -- it has the tests of a job, and what precedes them there
-pub record IsProblem (job : JobValue) (p : Problem) : Type 0 where
+pub record IsProblem (job : JobValue) (p : TimedTests) : Type 0 where
   pub some_wires : 1 ≤ p.wires
   pub few_wires : p.wires ≤ WIRES_MOST
   pub tests : length p.tests.items ≡ length job.tests
@@ -24,11 +24,11 @@ pub record IsProblem (job : JobValue) (p : Problem) : Type 0 where
   pub before : AreListed job (map listed p.before.items)
 
 -- a state for its wires, modules and tests
-abbrev pub IsStateOf : Problem → State → Type 0
+abbrev pub IsStateOf : TimedTests → State → Type 0
 IsStateOf p s = IsState p.wires (length p.modules.items) (length p.tests.items) s
 
 -- buses for its modules, and the wires that are left of them
-pub record AreFirstBuses (p : Problem) (b : Buses) (left : ℕ) : Type 0 where
+pub record AreFirstBuses (p : TimedTests) (b : Buses) (left : ℕ) : Type 0 where
   pub within : All (λ k. k < length b.widths.items) b.slots.items
   pub all_wires : sum_by (λ (w : ℕ). w) b.widths.items + left ≡ length b.widths.items
   pub as_many_slots : length b.widths.items ≡ p.wires

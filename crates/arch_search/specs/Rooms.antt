@@ -5,15 +5,15 @@ use Rattle.plan_model.specs.declared.TheConstants.{WIRES_MOST, START_MOST}
 use Rattle.live_tests.specs.declared.neighbours.Neighbours.{Neighbours}
 use Rattle.resource_table.specs.Befores.{listed, AreListed}
 use Rattle.resource_table.specs.Jobs.{JobValue, cycles_of, IsSoundJob}
-use Rattle.arch_search.specs.declared.problem.Problem.{Problem}
-use Rattle.arch_search.specs.declared.room.Room.{Room}
+use Rattle.arch_search.specs.declared.problem.TimedTests.{TimedTests}
+use Rattle.arch_search.specs.declared.room.ScheduleRoom.{ScheduleRoom}
 
 -- no chip has a bus of a later slot
 abbrev pub IsSlot : Option ℕ → Type 0
 IsSlot bus = IfSome bus (λ k. k < WIRES_MOST)
 
 -- room for `tests` tests
-pub record HasRoom (tests : ℕ) (r : Room) : Type 0 where
+pub record HasRoom (tests : ℕ) (r : ScheduleRoom) : Type 0 where
   pub slots : length r.slots.items ≡ tests
   pub cycles : length r.cycles.items ≡ tests
   pub chains : length r.chains.items ≡ tests
@@ -24,7 +24,7 @@ pub record HasRoom (tests : ℕ) (r : Room) : Type 0 where
   pub small_starts : All (λ s. s ≤ START_MOST) r.starts.items
   pub in_second : All (λ test. test < tests) r.second.items
 
-abbrev pub HasRoomFor : Problem → Room → Type 0
+abbrev pub HasRoomFor : TimedTests → ScheduleRoom → Type 0
 HasRoomFor p r = HasRoom (length p.tests.items) r
 
 -- for each of `tests` tests those that precede it, in a sound job

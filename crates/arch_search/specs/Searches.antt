@@ -3,9 +3,9 @@ use Rattle.std.specs.Prelude.{◌≡◌, ℕ, ◌<◌, ◌≤◌, List, length}
 use Rattle.std.specs.List.{All}
 use Rattle.plan_model.specs.declared.TheConstants.{START_MOST}
 use Rattle.resource_table.specs.Schedules.{TableValue, IsSoundTable}
-use Rattle.arch_search.specs.declared.room.Room.{Room}
+use Rattle.arch_search.specs.declared.room.ScheduleRoom.{ScheduleRoom}
 use Rattle.arch_search.specs.declared.search.Found.{Found}
-use Rattle.arch_search.specs.declared.dealing.Taken.{Taken}
+use Rattle.arch_search.specs.declared.dealing.DealtModule.{DealtModule}
 use Rattle.arch_search.specs.declared.setting.SearchSetting.{SearchSetting}
 use Rattle.arch_search.specs.declared.state.State.{State}
 use Rattle.arch_search.specs.Problems.{IsProblem, IsStateOf}
@@ -13,7 +13,7 @@ use Rattle.arch_search.specs.States.{IsTaken}
 use Rattle.arch_search.specs.Settings.{IsSetting}
 use Rattle.arch_search.specs.Rooms.{HasRoomFor}
 
-pub record IsSearch (s : SearchSetting) (table : TableValue) (room : Room) (taken : List Taken) (less : List ℕ)
+pub record IsSearch (s : SearchSetting) (table : TableValue) (room : ScheduleRoom) (taken : List DealtModule) (less : List ℕ)
     (best current next : State) : Type 0 where
   pub setting : IsSetting s
   pub is_problem : IsProblem table.job s.problem.now

@@ -2,7 +2,7 @@
 use Rattle.std.specs.Prelude.{◌≡◌, ℕ, ◌<◌, ◌≤◌, length}
 use Rattle.std.specs.List.{All, sum_by}
 use Rattle.arch_search.specs.declared.buses.Buses.{Buses}
-use Rattle.arch_search.specs.declared.dealing.Taken.{Taken}
+use Rattle.arch_search.specs.declared.dealing.DealtModule.{DealtModule}
 use Rattle.arch_search.specs.declared.state.State.{State}
 use Rattle.arch_search.specs.declared.times.Times.{Times}
 use Rattle.arch_search.specs.Times.{AreTimes}
@@ -25,7 +25,7 @@ pub record AreTimesOn (b : Buses) (t : Times) : Type 0 where
   pub modules : length t.rows.items ≡ length b.slots.items
 
 -- one of `modules` modules, and one of `wires` slots
-pub record IsTaken (wires modules : ℕ) (t : Taken) : Type 0 where
+pub record IsTaken (wires modules : ℕ) (t : DealtModule) : Type 0 where
   pub is_module : t.«module» < modules
   pub is_slot : t.from < wires
 

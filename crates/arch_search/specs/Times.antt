@@ -1,7 +1,7 @@
 -- The cycles of modules on each width.
 use Rattle.std.specs.Prelude.{◌≡◌, ℕ, ◌+◌, ◌<◌, length}
 use Rattle.std.specs.List.{All}
-use Rattle.arch_search.specs.declared.problem.Problem.{Problem}
+use Rattle.arch_search.specs.declared.problem.TimedTests.{TimedTests}
 use Rattle.arch_search.specs.declared.times.ModuleCycles.{ModuleCycles}
 use Rattle.arch_search.specs.declared.times.Column.{Column}
 use Rattle.arch_search.specs.declared.times.Ranking.{Ranking}
@@ -27,7 +27,7 @@ pub record AreTimes (t : Times) : Type 0 where
   pub as_many_rankings : length t.rankings.items ≡ t.wires + 1
   pub rankings : All (IsRanking (length t.rows.items)) t.rankings.items
 
-pub record AreTimesOf (p : Problem) (t : Times) : Type 0 where
+pub record AreTimesOf (p : TimedTests) (t : Times) : Type 0 where
   pub times : AreTimes t
   pub wires : t.wires ≡ p.wires
   pub modules : length t.rows.items ≡ length p.modules.items

@@ -4,7 +4,7 @@ ghost use Rattle.std.specs.List.{All};
 ghost use Rattle.arch_search.specs.States.{AreBuses, AreAlike, AreTimesOn, IsTaken};
 
 use crate::buses::Buses;
-use crate::dealing::{Taken, deal_modules};
+use crate::dealing::{DealtModule, deal_modules};
 use crate::draws::Draws;
 use crate::kinds::{ChangeKind, drawn_kind};
 use crate::moves::{merge_buses, move_module};
@@ -31,7 +31,7 @@ fn first_module(buses: &Buses, any: usize, late: Option<usize>, draws: &mut Draw
 pub(crate) fn change_buses(
     times: &Times,
     buses: &mut Buses,
-    taken: &mut Vec<Taken>,
+    taken: &mut Vec<DealtModule>,
     late: Option<usize>,
     draws: &mut Draws,
 ) -> bool

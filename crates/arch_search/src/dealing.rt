@@ -12,7 +12,7 @@ pub(crate) const DEALT_MOST: usize = 4;
 
 /// A module that is dealt again.
 #[derive(Clone, Copy, Drop)]
-pub struct Taken {
+pub struct DealtModule {
     /// The module.
     pub module: usize,
     /// The slot that it was on.
@@ -20,12 +20,12 @@ pub struct Taken {
 }
 
 /// Whether a module is among those that are taken.
-fn is_taken(taken: &[Taken], module: usize) -> bool {
+fn is_taken(taken: &[DealtModule], module: usize) -> bool {
     taken.iter().any(|one| one.module == module)
 }
 
 /// From a module on, round, the first one that isn't taken yet; the module itself where there is none.
-fn next_free(taken: &[Taken], module: usize, modules: usize) -> usize
+fn next_free(taken: &[DealtModule], module: usize, modules: usize) -> usize
     requires { «module» < modules }
     ensures { result < modules }
 {
@@ -43,7 +43,7 @@ fn next_free(taken: &[Taken], module: usize, modules: usize) -> usize
 }
 
 /// Takes a module off its bus.
-fn take_off(times: &Times, buses: &mut Buses, module: usize) -> Taken
+fn take_off(times: &Times, buses: &mut Buses, module: usize) -> DealtModule
     requires buses { AreBuses buses.old }
     requires times { AreTimesOn buses.old times.now }
     requires there { «module» < length buses.old.slots.items }
@@ -55,14 +55,14 @@ fn take_off(times: &Times, buses: &mut Buses, module: usize) -> Taken
     let width = buses.width_of(from);
     let load = buses.loads[from].saturating_sub(times.on(module, width));
     buses.set_load(from, load);
-    Taken { module, from }
+    DealtModule { module, from }
 }
 
 /// Takes `count` modules off their buses, the first one and others that are drawn.
 fn take_all(
     times: &Times,
     buses: &mut Buses,
-    taken: &mut Vec<Taken>,
+    taken: &mut Vec<DealtModule>,
     count: usize,
     first: usize,
     draws: &mut Draws,
@@ -109,7 +109,7 @@ fn chosen_slot(times: &Times, buses: &Buses, module: usize, draws: &mut Draws) -
 }
 
 /// Deals a module that was taken off. Whether it is on another bus than before.
-fn deal_again(times: &Times, buses: &mut Buses, one: Taken, draws: &mut Draws) -> bool
+fn deal_again(times: &Times, buses: &mut Buses, one: DealtModule, draws: &mut Draws) -> bool
     requires buses { AreBuses buses.old }
     requires times { AreTimesOn buses.old times.now }
     requires taken { IsTaken (length buses.old.widths.items) (length buses.old.slots.items) one }
@@ -127,7 +127,7 @@ fn deal_again(times: &Times, buses: &mut Buses, one: Taken, draws: &mut Draws) -
 fn deal_all(
     times: &Times,
     buses: &mut Buses,
-    taken: &[Taken],
+    taken: &[DealtModule],
     count: usize,
     draws: &mut Draws,
 ) -> bool
@@ -148,7 +148,7 @@ fn deal_all(
 }
 
 /// Hands the wires of slots that are left without modules on to the slot of the greatest load.
-fn release_left(times: &Times, buses: &mut Buses, taken: &[Taken], count: usize)
+fn release_left(times: &Times, buses: &mut Buses, taken: &[DealtModule], count: usize)
     requires buses { AreBuses buses.old }
     requires times { AreTimesOn buses.old times.now }
     requires count { count ≤ length taken.now }
@@ -168,7 +168,7 @@ fn release_left(times: &Times, buses: &mut Buses, taken: &[Taken], count: usize)
 pub(crate) fn deal_modules(
     times: &Times,
     buses: &mut Buses,
-    taken: &mut Vec<Taken>,
+    taken: &mut Vec<DealtModule>,
     first: usize,
     draws: &mut Draws,
 ) -> bool

@@ -28,5 +28,5 @@ mod state;
 mod times;
 mod weighing;
 
-pub use problem::Problem;
+pub use problem::TimedTests;
 pub use search::{Found, Search};

@@ -27,7 +27,7 @@ pub struct TestTimes {
 
 /// The tests of a chip, with their cycles on each width.
 #[derive(Drop)]
-pub struct Problem {
+pub struct TimedTests {
     /// The wires.
     pub wires: usize,
     /// The numbers of the modules with tests over the wires, in the order of the chip.
@@ -170,7 +170,7 @@ fn push_module(modules: &mut Vec<u64>, module: &Module) -> Result<Option<usize>,
     Ok(Some(number))
 }
 
-impl Problem {
+impl TimedTests {
     /// What a search for the tests of a job goes by, which are the live tests of a chip, on up to `wires` wires in packed wrappers.
     /// `NoMemory` where there is none.
     pub fn new(
@@ -179,7 +179,7 @@ impl Problem {
         packed: &PackedWrappers,
         wires: u64,
         job: &Job,
-    ) -> Result<Problem, NoMemory>
+    ) -> Result<TimedTests, NoMemory>
         requires some { 1 ≤ wires }
         requires few { wires ≤ WIRES_MOST }
         requires job { IsSoundJob (job_value job.now) }
@@ -195,7 +195,7 @@ impl Problem {
             push_tests(alloc, &mut tests, packed, wires, stands, module)?;
         }
         let before = all_before(alloc, job.tests.len(), &job.before)?;
-        Ok(Problem {
+        Ok(TimedTests {
             wires: wires as usize,
             modules,
             tests,

@@ -10,7 +10,7 @@ use std::alloc::Global;
 
 /// Room for what a schedule is made from, and for its starts.
 #[derive(Drop)]
-pub struct Room {
+pub struct ScheduleRoom {
     /// For each test the slot of its bus.
     pub slots: Vec<Option<usize>>,
     /// For each test its cycles.
@@ -32,9 +32,9 @@ fn no_slots(alloc: Global, count: usize) -> Result<Vec<Option<usize>>, NoMemory>
     Ok(vec![in alloc; None; count]?)
 }
 
-impl Room {
+impl ScheduleRoom {
     /// Room for `tests` tests.
-    pub(crate) fn new(alloc: Global, tests: usize) -> Result<Room, NoMemory>
+    pub(crate) fn new(alloc: Global, tests: usize) -> Result<ScheduleRoom, NoMemory>
         ensures { IfOk result (HasRoom tests) }
     {
         let slots = no_slots(alloc, tests)?;
@@ -43,7 +43,7 @@ impl Room {
         let starts = zeros(alloc, tests)?;
         let keys = with_keys(alloc, &cycles)?;
         let second = sorted_by(alloc, &cycles)?;
-        Ok(Room {
+        Ok(ScheduleRoom {
             slots,
             cycles,
             chains,

@@ -10,8 +10,8 @@ ghost use Rattle.arch_search.specs.Problems.{IsTimed, IsProblem};
 ghost use Rattle.arch_search.specs.Rooms.{HasRoom, HasRoomFor, AreShort, AreCyclesOf};
 
 use crate::buses::Buses;
-use crate::problem::{Problem, TestTimes};
-use crate::room::Room;
+use crate::problem::{TestTimes, TimedTests};
+use crate::room::ScheduleRoom;
 use live_tests::Neighbours;
 use outside::NoMemory;
 use plan_model::START_MOST;
@@ -48,7 +48,7 @@ fn cycles_over(test: &TestTimes, buses: &Buses, slot: Option<usize>) -> u64
 }
 
 /// Notes that a test goes over the bus of a slot and takes `cycles` cycles.
-fn assign_bus(room: &mut Room, test: usize, slot: Option<usize>, cycles: u64)
+fn assign_bus(room: &mut ScheduleRoom, test: usize, slot: Option<usize>, cycles: u64)
     requires test { test < length room.old.slots.items }
     requires cycles { test < length room.old.cycles.items }
     requires slot { IfSome slot (λ k. k < 256) }
@@ -61,7 +61,7 @@ fn assign_bus(room: &mut Room, test: usize, slot: Option<usize>, cycles: u64)
 
 /// Sends each test over its bus. False where a test can't be tested so, or where the tests take more cycles together than a plan
 /// may have.
-pub(crate) fn assign_buses(problem: &Problem, buses: &Buses, room: &mut Room) -> bool
+pub(crate) fn assign_buses(problem: &TimedTests, buses: &Buses, room: &mut ScheduleRoom) -> bool
     requires buses { AreBuses buses.now }
     requires wires { length buses.now.widths.items ≡ problem.now.wires }
     requires few_wires { problem.now.wires ≤ 256 }
@@ -87,7 +87,7 @@ pub(crate) fn assign_buses(problem: &Problem, buses: &Buses, room: &mut Room) ->
 }
 
 /// Empties the table for the tests as they were sent.
-fn restart_table<J>(problem: &Problem, table: &mut OwnTable<J>, room: &Room)
+fn restart_table<J>(problem: &TimedTests, table: &mut OwnTable<J>, room: &ScheduleRoom)
     requires problem { IsProblem table.old.job problem.now }
     requires sound { IsSoundTable table.old }
     requires room { HasRoomFor problem.now room.now }
@@ -175,7 +175,7 @@ fn place_all<J>(
     table: &mut TableOf<J>,
     before: &[Neighbours],
     order: &[usize],
-    room: &mut Room,
+    room: &mut ScheduleRoom,
     most: u64,
 ) -> Result<u64, usize>
     requires order { All (λ test. test < length table.old.job.tests) order.now }
@@ -204,7 +204,7 @@ fn place_all<J>(
 }
 
 /// The slot of the late bus: that of the first test over the wires that ends at a cycle. None where there is no such test.
-pub(crate) fn late_bus(problem: &Problem, room: &Room, end: u64) -> Option<usize>
+pub(crate) fn late_bus(problem: &TimedTests, room: &ScheduleRoom, end: u64) -> Option<usize>
     requires { HasRoomFor problem.now room.now }
 {
     for test in 0..problem.tests.len() {
@@ -219,10 +219,10 @@ pub(crate) fn late_bus(problem: &Problem, room: &Room, end: u64) -> Option<usize
 
 /// Places the tests of an order in the emptied table.
 pub(crate) fn place_order<J>(
-    problem: &Problem,
+    problem: &TimedTests,
     table: &mut OwnTable<J>,
     order: &[usize],
-    room: &mut Room,
+    room: &mut ScheduleRoom,
     most: u64,
 ) -> Result<u64, usize>
     requires problem { IsProblem table.old.job problem.now }

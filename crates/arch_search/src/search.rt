@@ -7,12 +7,12 @@ ghost use Rattle.arch_search.specs.Searches.{IsLent};
 ghost use Rattle.arch_search.specs.States.{IsTaken};
 
 use crate::changes::change_buses;
-use crate::dealing::{DEALT_MOST, Taken};
+use crate::dealing::{DEALT_MOST, DealtModule};
 use crate::draws::Draws;
 use crate::order::{change_order, reorder_tests};
-use crate::problem::Problem;
+use crate::problem::TimedTests;
 use crate::repair::fits;
-use crate::room::Room;
+use crate::room::ScheduleRoom;
 use crate::rounds::{NextTry, Rounds, drawn_most};
 use crate::scheduling::zeros;
 use crate::setting::SearchSetting;
@@ -43,9 +43,9 @@ pub struct Search<'a> {
     /// The table in which schedules are made.
     table: OwnTable<&'a Job>,
     /// Room for schedules.
-    room: Room,
+    room: ScheduleRoom,
     /// Room for the modules that are dealt again.
-    taken: Vec<Taken>,
+    taken: Vec<DealtModule>,
     /// Room for the loads on one wire less.
     less: Vec<u64>,
     /// Where the draws come from.
@@ -75,7 +75,7 @@ impl<'a> Model for Search<'a> {
 #[derive(Drop)]
 pub struct Found<'s> {
     /// What the search went by.
-    pub problem: &'s Problem,
+    pub problem: &'s TimedTests,
     /// For each slot the wires of its bus, none where it is unused.
     pub widths: &'s [u64],
     /// For each module with tests over the wires the slot of its bus.
@@ -89,15 +89,15 @@ pub struct Found<'s> {
 }
 
 /// Room for `count` modules that are dealt again.
-fn taken_room(alloc: Global, count: usize) -> Result<Vec<Taken>, NoMemory>
+fn taken_room(alloc: Global, count: usize) -> Result<Vec<DealtModule>, NoMemory>
     ensures { IfOk result (λ taken. taken.items ≡ replicate count (record { «module» = 0; from = 0 })) }
 {
-    let none = Taken { module: 0, from: 0 };
+    let none = DealtModule { module: 0, from: 0 };
     Ok(vec![in alloc; none; count]?)
 }
 
 /// Room for the modules of a problem that are dealt again.
-fn no_modules(alloc: Global, problem: &Problem) -> Result<Vec<Taken>, NoMemory>
+fn no_modules(alloc: Global, problem: &TimedTests) -> Result<Vec<DealtModule>, NoMemory>
     requires { (job : JobValue) × IsProblem job problem.now }
     ensures { IfOk result (λ taken. All (IsTaken problem.now.wires (length problem.now.modules.items)) taken.items) }
 {
@@ -112,7 +112,7 @@ impl<'a> Search<'a> {
     pub fn new(
         alloc: Global,
         names: &LiveTests,
-        problem: &'a Problem,
+        problem: &'a TimedTests,
         job: &'a Job,
         plan: &Plan,
         seed: u64,
@@ -130,7 +130,7 @@ impl<'a> Search<'a> {
     /// A search with these states, the next of which is weighed.
     fn with_states(
         alloc: Global,
-        problem: &'a Problem,
+        problem: &'a TimedTests,
         job: &'a Job,
         best: State,
         current: State,
@@ -144,7 +144,7 @@ impl<'a> Search<'a> {
         requires next { IsStateOf problem.now next }
     {
         let lists = both(no_modules(alloc, problem), zeros(alloc, problem.wires));
-        let parts = both(Room::new(alloc, problem.tests.len()), lists);
+        let parts = both(ScheduleRoom::new(alloc, problem.tests.len()), lists);
         let base = both(
             SearchSetting::new(alloc, problem, job),
             OwnTable::new(alloc, job),

@@ -4,7 +4,7 @@ ghost use Rattle.resource_table.specs.Jobs.{job_value, IsSoundJob};
 ghost use Rattle.arch_search.specs.Problems.{IsProblem};
 ghost use Rattle.arch_search.specs.Settings.{IsSetting};
 
-use crate::problem::Problem;
+use crate::problem::TimedTests;
 use crate::times::{Times, times_of};
 use outside::NoMemory;
 use resource_table::{Job, JobTest};
@@ -14,7 +14,7 @@ use std::alloc::Global;
 #[derive(Drop)]
 pub struct SearchSetting<'a> {
     /// The tests with their cycles, and the wires.
-    pub problem: &'a Problem,
+    pub problem: &'a TimedTests,
     /// The tests with their powers, and what binds them.
     pub job: &'a Job,
     /// The cycles of the modules.
@@ -84,7 +84,7 @@ impl<'a> SearchSetting<'a> {
     /// What a search for the tests of a job goes by. `NoMemory` where there is none.
     pub(crate) fn new(
         alloc: Global,
-        problem: &'a Problem,
+        problem: &'a TimedTests,
         job: &'a Job,
     ) -> Result<SearchSetting<'a>, NoMemory>
         requires sound { IsSoundJob (job_value job.now) }

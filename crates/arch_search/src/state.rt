@@ -6,7 +6,7 @@ ghost use Rattle.arch_search.specs.States.{AreBuses, AreAlike};
 ghost use Rattle.arch_search.specs.Problems.{IsProblem, IsStateOf, AreFirstBuses};
 
 use crate::buses::Buses;
-use crate::problem::Problem;
+use crate::problem::TimedTests;
 use crate::scheduling::zeros;
 use crate::sorting::sorted_by;
 use live_tests::LiveTests;
@@ -39,7 +39,7 @@ fn write_over<T: Copy>(to: &mut Vec<T>, from: &[T])
 impl State {
     /// A copy in memory of its own.
     pub(crate) fn copy(&self, alloc: Global) -> Result<State, NoMemory>
-        ensures { (p : Problem) → IsStateOf p self.now → IfOk result (IsStateOf p) }
+        ensures { (p : TimedTests) → IsStateOf p self.now → IfOk result (IsStateOf p) }
     {
         let widths = copied(alloc, &self.buses.widths)?;
         let slots = copied(alloc, &self.buses.slots)?;
@@ -58,7 +58,7 @@ impl State {
     }
 
     /// Takes the buses of another state of the same problem. It takes no memory.
-    pub(crate) fn take_buses(&mut self, problem: &Problem, other: &State)
+    pub(crate) fn take_buses(&mut self, problem: &TimedTests, other: &State)
         requires own { IsStateOf problem.now self.old }
         requires other { IsStateOf problem.now other.now }
         ensures state { IsStateOf problem.now self.new }
@@ -70,7 +70,7 @@ impl State {
     }
 
     /// Takes the order of another state of the same problem. It takes no memory.
-    pub(crate) fn take_order(&mut self, problem: &Problem, other: &State)
+    pub(crate) fn take_order(&mut self, problem: &TimedTests, other: &State)
         requires own { IsStateOf problem.now self.old }
         requires other { IsStateOf problem.now other.now }
         ensures state { IsStateOf problem.now self.new }
@@ -80,7 +80,7 @@ impl State {
     }
 
     /// Becomes as another state of the same problem.
-    pub(crate) fn become_as(&mut self, problem: &Problem, other: &State)
+    pub(crate) fn become_as(&mut self, problem: &TimedTests, other: &State)
         requires own { IsStateOf problem.now self.old }
         requires other { IsStateOf problem.now other.now }
         ensures state { IsStateOf problem.now self.new }
@@ -211,7 +211,7 @@ fn bus_of(job: &Job, plan: &Plan, test: usize, slots: usize) -> Option<(usize, u
 /// Settles the module of a test, where it has one and the plan a bus for it. Answers how many wires are left then.
 fn settle_test(
     buses: &mut Buses,
-    problem: &Problem,
+    problem: &TimedTests,
     job: &Job,
     plan: &Plan,
     test: usize,
@@ -233,7 +233,12 @@ fn settle_test(
 
 /// The buses at first: those of the plan with modules that have tests over the wires. Wires of no such bus go to the bus of
 /// the first module.
-fn first_buses(alloc: Global, problem: &Problem, job: &Job, plan: &Plan) -> Result<Buses, NoMemory>
+fn first_buses(
+    alloc: Global,
+    problem: &TimedTests,
+    job: &Job,
+    plan: &Plan,
+) -> Result<Buses, NoMemory>
     requires { IsProblem (job_value job.now) problem.now }
     ensures buses { IfOk result AreBuses }
     ensures wires { IfOk result (λ b. length b.widths.items ≡ problem.now.wires) }
@@ -259,7 +264,7 @@ fn first_buses(alloc: Global, problem: &Problem, job: &Job, plan: &Plan) -> Resu
 pub(crate) fn first_state(
     alloc: Global,
     names: &LiveTests,
-    problem: &Problem,
+    problem: &TimedTests,
     job: &Job,
     plan: &Plan,
 ) -> Result<State, NoMemory>

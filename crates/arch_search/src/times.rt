@@ -5,7 +5,7 @@ ghost use Rattle.resource_table.specs.Jobs.{JobValue};
 ghost use Rattle.arch_search.specs.Problems.{IsProblem};
 ghost use Rattle.arch_search.specs.Times.{IsRow, IsColumn, IsRanking, AreTimes, AreTimesOf};
 
-use crate::problem::Problem;
+use crate::problem::TimedTests;
 use crate::scheduling::zeros;
 use crate::sorting::sorted_by;
 use outside::{NoMemory, push};
@@ -40,7 +40,7 @@ pub struct Times {
     pub wires: usize,
     /// For each module its cycles.
     pub rows: Vec<ModuleCycles>,
-    /// The same once more, for each width, from none on, so that a sum over the modules goes through one list.
+    /// These cycles by width, from none on, so that a sum over the modules goes through one list.
     pub columns: Vec<Column>,
     /// For each width, from none on, the modules, those of the most cycles first.
     pub rankings: Vec<Ranking>,
@@ -110,7 +110,7 @@ fn add_cycles(sums: &mut [u64], cycles: &[u64])
 }
 
 /// Adds a test to its module, where it is over the wires.
-fn add_test(rows: &mut Vec<ModuleCycles>, problem: &Problem, test: usize)
+fn add_test(rows: &mut Vec<ModuleCycles>, problem: &TimedTests, test: usize)
     requires problem { (job : JobValue) × IsProblem job problem.now }
     requires test { test < length problem.now.tests.items }
     requires long { length rows.old.items ≡ length problem.now.modules.items }
@@ -125,7 +125,7 @@ fn add_test(rows: &mut Vec<ModuleCycles>, problem: &Problem, test: usize)
 }
 
 /// For each module its cycles.
-fn rows_of(alloc: Global, problem: &Problem) -> Result<Vec<ModuleCycles>, NoMemory>
+fn rows_of(alloc: Global, problem: &TimedTests) -> Result<Vec<ModuleCycles>, NoMemory>
     requires { (job : JobValue) × IsProblem job problem.now }
     ensures long { IfOk result (λ rows. length rows.items ≡ length problem.now.modules.items) }
     ensures rows { IfOk result (λ rows. All (IsRow problem.now.wires) rows.items) }
@@ -140,7 +140,7 @@ fn rows_of(alloc: Global, problem: &Problem) -> Result<Vec<ModuleCycles>, NoMemo
 /// The cycles of the modules on a width.
 fn column_of(
     alloc: Global,
-    problem: &Problem,
+    problem: &TimedTests,
     rows: &[ModuleCycles],
     width: usize,
 ) -> Result<Column, NoMemory>
@@ -159,7 +159,7 @@ fn column_of(
 /// For each width the cycles of the modules.
 fn columns_of(
     alloc: Global,
-    problem: &Problem,
+    problem: &TimedTests,
     rows: &[ModuleCycles],
 ) -> Result<Vec<Column>, NoMemory>
     requires few_wires { problem.now.wires ≤ 256 }
@@ -179,7 +179,7 @@ fn columns_of(
 /// What the modules are sorted by for a width: the fewer, the more cycles they take.
 fn ranks(
     alloc: Global,
-    problem: &Problem,
+    problem: &TimedTests,
     rows: &[ModuleCycles],
     width: usize,
 ) -> Result<Vec<u64>, NoMemory>
@@ -198,7 +198,7 @@ fn ranks(
 /// The modules, those of the most cycles on a width first.
 fn ranking_of(
     alloc: Global,
-    problem: &Problem,
+    problem: &TimedTests,
     rows: &[ModuleCycles],
     width: usize,
 ) -> Result<Ranking, NoMemory>
@@ -215,7 +215,7 @@ fn ranking_of(
 /// For each width the modules, those of the most cycles first.
 fn rankings_of(
     alloc: Global,
-    problem: &Problem,
+    problem: &TimedTests,
     rows: &[ModuleCycles],
 ) -> Result<Vec<Ranking>, NoMemory>
     requires few_wires { problem.now.wires ≤ 256 }
@@ -233,7 +233,7 @@ fn rankings_of(
 }
 
 /// The cycles of a problem's modules. `NoMemory` where there is none.
-pub(crate) fn times_of(alloc: Global, problem: &Problem) -> Result<Times, NoMemory>
+pub(crate) fn times_of(alloc: Global, problem: &TimedTests) -> Result<Times, NoMemory>
     requires { (job : JobValue) × IsProblem job problem.now }
     ensures { IfOk result (AreTimesOf problem.now) }
 {

@@ -11,8 +11,8 @@ use crate::buses::Buses;
 use crate::chains::{draw_too_much, set_chains};
 use crate::draws::Draws;
 use crate::order::advance_drawn;
-use crate::problem::Problem;
-use crate::room::Room;
+use crate::problem::TimedTests;
+use crate::room::ScheduleRoom;
 use crate::scheduling::{assign_buses, late_bus, place_order};
 use crate::setting::SearchSetting;
 use crate::state::State;
@@ -59,7 +59,12 @@ fn load_ends(setting: &SearchSetting<'_>, buses: &Buses, most: u64) -> Option<En
 }
 
 /// Whether the tests, as they were sent, could end within `most` cycles, by their chains of precedences and by their power.
-fn could_end(setting: &SearchSetting<'_>, order: &[usize], room: &mut Room, most: u64) -> bool
+fn could_end(
+    setting: &SearchSetting<'_>,
+    order: &[usize],
+    room: &mut ScheduleRoom,
+    most: u64,
+) -> bool
     requires setting { IsSetting setting.now }
     requires order { All (λ test. test < length setting.now.problem.now.tests.items) order.now }
     requires room { HasRoomFor setting.now.problem.now room.old }
@@ -84,10 +89,10 @@ fn could_end(setting: &SearchSetting<'_>, order: &[usize], room: &mut Room, most
 /// Places the tests by their chains of precedences, the longest first. Where they end within `most` cycles, that is the order of
 /// the state from then on.
 fn place_by_chains<J>(
-    problem: &Problem,
+    problem: &TimedTests,
     table: &mut OwnTable<J>,
     state: &mut State,
-    room: &mut Room,
+    room: &mut ScheduleRoom,
     most: u64,
 ) -> Option<u64>
     requires problem { IsProblem table.old.job problem.now }
@@ -113,10 +118,10 @@ fn place_by_chains<J>(
 /// Places the tests with the one at a place, which was refused, at an earlier one that is drawn; and once more so with the one that is
 /// refused then.
 fn place_earlier<J>(
-    problem: &Problem,
+    problem: &TimedTests,
     table: &mut OwnTable<J>,
     state: &mut State,
-    room: &mut Room,
+    room: &mut ScheduleRoom,
     most: u64,
     refused: usize,
     draws: &mut Draws,
@@ -148,10 +153,10 @@ fn place_earlier<J>(
 /// chains, and where they still don't, with the first one that was refused at an earlier place. The order that serves is that of the state
 /// from then on.
 fn place_somehow<J>(
-    problem: &Problem,
+    problem: &TimedTests,
     table: &mut OwnTable<J>,
     state: &mut State,
-    room: &mut Room,
+    room: &mut ScheduleRoom,
     most: u64,
     again: bool,
     draws: &mut Draws,
@@ -184,7 +189,7 @@ pub(crate) fn weigh_state<J>(
     setting: &SearchSetting<'_>,
     table: &mut OwnTable<J>,
     state: &mut State,
-    room: &mut Room,
+    room: &mut ScheduleRoom,
     most: u64,
     again: bool,
     draws: &mut Draws,
@@ -215,10 +220,10 @@ pub(crate) fn weigh_state<J>(
 
 /// Makes the schedule of a state.
 pub(crate) fn schedule_state<J>(
-    problem: &Problem,
+    problem: &TimedTests,
     table: &mut OwnTable<J>,
     state: &State,
-    room: &mut Room,
+    room: &mut ScheduleRoom,
 )
     requires problem { IsProblem table.old.job problem.now }
     requires sound { IsSoundTable table.old }

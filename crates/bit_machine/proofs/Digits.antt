@@ -12,7 +12,7 @@ made_digit v = digit (has_odd_square v)
 
 pub digit_at : (digits : List ℕ) (v d : ℕ) → digits ≡ map made_digit (range_with_len 0 997) → v < 997 → get_or digits v d ≡ made_digit v
 digit_at digits v d are h =
-    let long : length (range_with_len 0 997) ≡ 997 = length-range_with_len 0 997 in
-    let within : v < length (range_with_len 0 997) = omega (arith, long, h) in
+    let long = length-range_with_len 0 997 in
+    let within : v < length (range_with_len 0 997) = omega arith in
     let own : 0 + v ≡ v = omega arith in
     ap (λ l. get_or l v d) are ∙ get_or-map made_digit (range_with_len 0 997) v 0 d within ∙ ap made_digit (get_or-range_with_len 0 997 v 0 h ∙ own)

@@ -4,25 +4,26 @@ use Rattle.std.specs.List.{range_with_len}
 use Rattle.std.proofs.Math.ListN.{set}
 use Rattle.bit_machine.specs.Sessions.{each_with}
 
-pub length-each_with : {X Y : Type 0} (f : X → Y → Y) (xs : List X) (ys : List Y) → length (each_with f xs ys) ≡ length ys
-length-each_with f [] ys = refl
-length-each_with f (x ∷ xs) [] = refl
-length-each_with f (x ∷ xs) (y ∷ ys) = ap suc (length-each_with f xs ys)
+module _ {X Y : Type 0} (f : X → Y → Y) where
+  pub length-each_with : (xs : List X) (ys : List Y) → length (each_with f xs ys) ≡ length ys
+  length-each_with [] ys = refl
+  length-each_with (x ∷ xs) [] = refl
+  length-each_with (x ∷ xs) (y ∷ ys) = ap suc (length-each_with xs ys)
 
--- what the first list does not reach stays
-pub each_with-past : {X Y : Type 0} (f : X → Y → Y) (xs : List X) (ys : List Y) (j : ℕ) (e : Y) → j < length ys → get_or (each_with f (take j xs) ys) j e ≡ get_or ys j e
-each_with-past f xs [] j e h = absurd (omega arith)
-each_with-past f xs (y ∷ ys) zero e h = refl
-each_with-past f [] (y ∷ ys) (suc j) e h = refl
-each_with-past f (x ∷ xs) (y ∷ ys) (suc j) e h = each_with-past f xs ys j e (omega arith)
+  -- what the first list does not reach stays
+  pub each_with-past : (xs : List X) (ys : List Y) (j : ℕ) (e : Y) → j < length ys → get_or (each_with f (take j xs) ys) j e ≡ get_or ys j e
+  each_with-past xs [] j e h = absurd (omega arith)
+  each_with-past xs (y ∷ ys) zero e h = refl
+  each_with-past [] (y ∷ ys) (suc j) e h = refl
+  each_with-past (x ∷ xs) (y ∷ ys) (suc j) e h = each_with-past xs ys j e (omega arith)
 
--- one item more
-pub each_with-more : {X Y : Type 0} (f : X → Y → Y) (xs : List X) (ys : List Y) (j : ℕ) (d : X) (e : Y) → j < length xs → j < length ys →
-    each_with f (take (suc j) xs) ys ≡ set (each_with f (take j xs) ys) j (f (get_or xs j d) (get_or ys j e))
-each_with-more f [] ys j d e h h' = absurd (omega arith)
-each_with-more f (x ∷ xs) [] j d e h h' = absurd (omega arith)
-each_with-more f (x ∷ xs) (y ∷ ys) zero d e h h' = refl
-each_with-more f (x ∷ xs) (y ∷ ys) (suc j) d e h h' = ap (λ v. f x y ∷ v) (each_with-more f xs ys j d e (omega arith) (omega arith))
+  -- one item more
+  pub each_with-more : (xs : List X) (ys : List Y) (j : ℕ) (d : X) (e : Y) → j < length xs → j < length ys →
+      each_with f (take (suc j) xs) ys ≡ set (each_with f (take j xs) ys) j (f (get_or xs j d) (get_or ys j e))
+  each_with-more [] ys j d e h h' = absurd (omega arith)
+  each_with-more (x ∷ xs) [] j d e h h' = absurd (omega arith)
+  each_with-more (x ∷ xs) (y ∷ ys) zero d e h h' = refl
+  each_with-more (x ∷ xs) (y ∷ ys) (suc j) d e h h' = ap (λ v. f x y ∷ v) (each_with-more xs ys j d e (omega arith) (omega arith))
 
 -- ---- by places
 

@@ -1,23 +1,18 @@
 -- The tests of a good plan on its wires.
-use Rattle.std.proofs.Common.{◌≡◌, ℕ, zero, suc, ◌+◌, ◌-◌, ◌≤◌, ◌<◌, ◌⊎◌, Bool, true, false, Some, List, length, take, replicate, refl, ap, sym, subst, ◌∙◌, arith, inl, inr}
-use Rattle.std.specs.Prelude.{slice_get, slice_index}
-use Rattle.std.specs.List.{sum}
-use Rattle.std.proofs.lemmas.List.{get_or_past}
-use Rattle.std.proofs.lemmas.List.Sums.{sum_by_more_le, sum_by-take-le}
+use Rattle.std.proofs.Common.{◌≡◌, ℕ, zero, suc, ◌-◌, ◌≤◌, Bool, true, false, Some, replicate, refl, ap, sym, subst, ◌∙◌, arith, slice_get}
 use Rattle.std.proofs.lemmas.Option.{slice_get_within}
-use Rattle.std.proofs.lemmas.Bool.{cases_lt}
 use Rattle.soc_model.specs.declared.Test.{Test}
 use Rattle.soc_model.specs.Chips.{ModuleValue, SocValue}
 use Rattle.plan_model.specs.Cells.{Cell}
 use Rattle.plan_model.specs.Operations.{Shift, Capture, SelfTest}
 use Rattle.plan_model.specs.Plans.{PlanValue, LimitsValue, PlannedTest, planned, planned_test, widths, uses}
 use Rattle.plan_model.specs.Runs.{Content, operation_at}
-use Rattle.plan_model.specs.Right.{IsAt, IsReadAt, IsRight}
+use Rattle.plan_model.specs.Right.{IsAt, IsReadAt}
 use Rattle.plan_model.specs.Rules.{IsGood, Wrappers}
-use Rattle.plan_model.proofs.ChainsInTheRun.{AreApart, uses_wire}
+use Rattle.plan_model.proofs.ChainsInTheRun.{uses_wire}
 use Rattle.plan_model.proofs.LoadsAndReads.{begun_at}
-use Rattle.plan_model.proofs.PlannedTests.{Origin, origin, Wrapped, wrapped}
-use Rattle.plan_model.proofs.TestsInGoodPlans.{apart, on_bus, OnBus, planned_tam}
+use Rattle.plan_model.proofs.PlannedTests.{Origin, origin, wrapped}
+use Rattle.plan_model.proofs.TestsInGoodPlans.{apart, on_bus, planned_tam}
 use Rattle.plan_model.proofs.GoodPlansRunRight.{every_good_plan_is_right}
 use Rattle.bit_machine.specs.Chips.{wires_of}
 use Rattle.bit_machine.specs.Machines.{AreOnWires}
@@ -36,49 +31,50 @@ self_captures plan place m test n k e = go test.tam refl where
   go true is = is
   go false is = let e' = rw is at e in absurd (no_capture test.patterns n e')
 
-capture_tam : (soc : SocValue) (plan : PlanValue) (i c k : ℕ) (t : PlannedTest) → IsAt (planned soc plan) i t → operation_at t c ≡ Some (Capture k) → t.tam ≡ true
-capture_tam soc plan i c k t at e =
-    let o : Origin soc plan i t = origin soc plan i t at in
+capture_tam : (soc : SocValue) (plan : PlanValue) (i c k : ℕ) {t : PlannedTest} → IsAt (planned soc plan) i t → operation_at t c ≡ Some (Capture k) →
+    t.tam ≡ true
+capture_tam soc plan i c k {t} at e =
+    let o = origin soc plan i t at in
     let b = begun_at t c (Capture k) e in
     subst (λ (t : PlannedTest). slice_get t.operations (c - t.start) ≡ Some (Capture k) → t.tam ≡ true) o.is (self_captures plan o.l.place o.l.core o.l.test (c - (planned_test plan o.l.place o.l.core o.l.test).start) k) b.1
 
--- a test over the wires has one at least
-planned_some_wire : (soc : SocValue) (limits : LimitsValue) (plan : PlanValue) (good : IsGood soc limits plan) (i : ℕ) (t : PlannedTest) (o : Origin soc plan i t) → o.l.test.tam ≡ true → 1 ≤ (planned_test plan o.l.place o.l.core o.l.test).width
-unfolding planned_test
-planned_some_wire soc limits plan good i t o tam =
-    let w : Wrapped plan o.l.core o.l.test = wrapped soc limits plan good o.l.place o.n o.l.core o.l.test o.module_at o.test_at tam in
-    let fits = ((good Wrappers).0 w.n w.w w.at) in
-    let some : 1 ≤ length (w.w).chains = fits.some_chain in
-    let on = rw w.module_is at fits.on_wires in
-    omega (arith, some, on)
+module _ (soc : SocValue) (limits : LimitsValue) (plan : PlanValue) (good : IsGood soc limits plan) (i : ℕ) where
+  -- a test over the wires has one at least
+  planned_some_wire : {t : PlannedTest} (o : Origin soc plan i t) → o.l.test.tam ≡ true → 1 ≤ (planned_test plan o.l.place o.l.core o.l.test).width
+  unfolding planned_test
+  planned_some_wire o tam =
+      let w = wrapped soc limits plan good o.l.place o.n o.l.core o.l.test o.module_at o.test_at tam in
+      let fits = ((good Wrappers).0 w.n w.w w.at) in
+      let on = rw w.module_is at fits.on_wires in
+      omega arith
 
-some_wire : (soc : SocValue) (limits : LimitsValue) (plan : PlanValue) (good : IsGood soc limits plan) (i : ℕ) (t : PlannedTest) → IsAt (planned soc plan) i t → t.tam ≡ true → 1 ≤ t.width
-some_wire soc limits plan good i t at tam =
-    let o : Origin soc plan i t = origin soc plan i t at in
-    let tam' : o.l.test.tam ≡ true = sym (planned_tam plan o.l.place o.l.core o.l.test) ∙ ap (λ (t : PlannedTest). t.tam) o.is ∙ tam in
-    subst (λ (t : PlannedTest). 1 ≤ t.width) o.is (planned_some_wire soc limits plan good i t o tam')
+  some_wire : {t : PlannedTest} → IsAt (planned soc plan) i t → t.tam ≡ true → 1 ≤ t.width
+  some_wire {t} at tam =
+      let o = origin soc plan i t at in
+      let tam' : o.l.test.tam ≡ true = sym (planned_tam plan o.l.place o.l.core o.l.test) ∙ ap (λ (t : PlannedTest). t.tam) o.is ∙ tam in
+      subst (λ (t : PlannedTest). 1 ≤ t.width) o.is (planned_some_wire o tam')
 
--- a test that is read uses the wire
-read_uses : (soc : SocValue) (limits : LimitsValue) (plan : PlanValue) (good : IsGood soc limits plan) (i k c w : ℕ) (t : PlannedTest) (x : Cell) → Content → IsAt (planned soc plan) i t → IsReadAt t k x c w → uses c w t ≡ true
-read_uses soc limits plan good i k c w t x content at read =
-    let right : IsRight soc limits plan content = every_good_plan_is_right soc limits plan content good in
-    let a : AreApart (planned soc plan) = apart soc limits plan good in
-    let shift : operation_at t c ≡ Some Shift = right.reads.all_shifts i t k x c w at read c (omega (arith, read.cycle)) (omega arith) in
-    let b = begun_at t c Shift shift in
-    let chain : read.chain < length t.chains = slice_get_within t.chains read.chain read.cells read.there in
-    let fit : length t.chains ≤ t.width = a.fit i t at in
-    subst (λ w. uses c w t ≡ true) (sym read.wire) (uses_wire t c read.chain (a.tam i read.chain t at chain) b.0 (slice_get_within t.operations (c - t.start) Shift b.1) (omega arith))
+  -- a test that is read uses the wire
+  read_uses : {k c w : ℕ} {t : PlannedTest} {x : Cell} → Content → IsAt (planned soc plan) i t → IsReadAt t k x c w → uses c w t ≡ true
+  read_uses {k} {c} {w} {t} {x} content at read =
+      let right = every_good_plan_is_right soc limits plan content good in
+      let a = apart soc limits plan good in
+      let shift = right.reads.all_shifts i t k x c w at read c (omega (arith, read.cycle)) (omega arith) in
+      let b = begun_at t c Shift shift in
+      let chain = slice_get_within t.chains read.chain read.cells read.there in
+      let fit = a.fit i t at in
+      subst (λ w. uses c w t ≡ true) (sym read.wire) (uses_wire t c read.chain (a.tam i read.chain t at chain) b.0 (slice_get_within t.operations (c - t.start) Shift b.1) (omega arith))
 
 pub good_wires : (soc : SocValue) (limits : LimitsValue) (plan : PlanValue) → IsGood soc limits plan → Content → AreOnWires (planned soc plan) (wires_of plan)
 good_wires soc limits plan good content =
-    let a : AreApart (planned soc plan) = apart soc limits plan good in
+    let a = apart soc limits plan good in
     record {
       alone = a.alone;
       within = λ i t at tam.
-          let b : OnBus plan t = on_bus soc plan i t at in
+          let b = on_bus soc plan i t at in
           rw (b.first, b.wide) (taken_within (widths plan) t.bus);
-      some = λ i t at tam. some_wire soc limits plan good i t at tam;
+      some = λ i t at tam. some_wire soc limits plan good i at tam;
       fit = a.fit;
-      captures = λ i c k t at e. capture_tam soc plan i c k t at e;
-      reads = λ i k c w t x at read. read_uses soc limits plan good i k c w t x content at read;
+      captures = λ i c k t at e. capture_tam soc plan i c k at e;
+      reads = λ i k c w t x at read. read_uses soc limits plan good i content at read;
     }

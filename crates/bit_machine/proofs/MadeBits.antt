@@ -7,14 +7,15 @@ use Rattle.bit_machine.specs.Paths.{made_from}
 pub same_rest : (m x y z : ℕ) → x ≡ y + m * z → x % m ≡ y % m
 same_rest m x y z e = ap (λ v. v % m) e ∙ add-mul-mod_self_left y m z
 
--- what a pattern and a bit's number add
-product_rest : (m k n a b u v : ℕ) → k ≡ a + m * u → n ≡ b + m * v → n * k ≡ b * a + m * (b * u + v * a + m * (v * u))
-product_rest m k n a b u v e f = rw (e, f) (omega arith)
+module _ (m : ℕ) {k n : ℕ} (a b u v : ℕ) (e : k ≡ a + m * u) (f : n ≡ b + m * v) where
+  -- what a pattern and a bit's number add
+  product_rest : n * k ≡ b * a + m * (b * u + v * a + m * (v * u))
+  product_rest = rw (e, f) (omega arith)
 
-pub pattern_rest : (m base k n s a b u v : ℕ) → k ≡ a + m * u → n ≡ b + m * v → (base + 101 * a + 7 * b + 3 * (b * a) + s) % m ≡ (base + 101 * k + 7 * n + 3 * (n * k) + s) % m
-pattern_rest m base k n s a b u v e f =
-    let p : n * k ≡ b * a + m * (b * u + v * a + m * (v * u)) = product_rest m k n a b u v e f in
-    sym (same_rest m (base + 101 * k + 7 * n + 3 * (n * k) + s) (base + 101 * a + 7 * b + 3 * (b * a) + s) (101 * u + 7 * v + 3 * (b * u + v * a + m * (v * u))) (omega (arith, e, f, p)))
+  pub pattern_rest : (base s : ℕ) → (base + 101 * a + 7 * b + 3 * (b * a) + s) % m ≡ (base + 101 * k + 7 * n + 3 * (n * k) + s) % m
+  pattern_rest base s =
+      let p = product_rest in
+      sym (same_rest m (base + 101 * k + 7 * n + 3 * (n * k) + s) (base + 101 * a + 7 * b + 3 * (b * a) + s) (101 * u + 7 * v + 3 * (b * u + v * a + m * (v * u))) (omega arith))
 
 pub rest_of : (n m : ℕ) → n ≡ n % m + m * (n / m)
 rest_of n m = sym (mod-add-div n m)

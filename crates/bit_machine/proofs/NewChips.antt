@@ -1,13 +1,11 @@
 -- A chip before its first cycle.
-use Rattle.std.proofs.Common.{◌≡◌, ℕ, zero, suc, ◌+◌, ◌-◌, ◌^◌, ◌≤◌, ◌<◌, Bool, true, Some, List, [], ◌∷◌, length, get_or, map, refl, ap, sym, subst, ◌∙◌, arith, inl, inr}
-use Rattle.std.specs.Prelude.{slice_get}
-use Rattle.std.specs.List.{sum_by}
+use Rattle.std.proofs.Common.{◌≡◌, ℕ, zero, suc, ◌+◌, ◌-◌, ◌^◌, ◌≤◌, ◌<◌, Bool, true, Some, List, [], ◌∷◌, length, get_or, map, refl, ap, sym, subst, ◌∙◌, arith, inl, inr, slice_get, sum_by}
 use Rattle.std.proofs.lemmas.List.{length-map, get_or-map}
 use Rattle.std.proofs.lemmas.List.Sums.{sum_by-cons}
 use Rattle.std.proofs.lemmas.Bool.{cases_Bool}
 use Rattle.std.proofs.lemmas.Option.{slice_get_within, get_or_from_slice_get}
 use Rattle.soc_model.specs.Chips.{SocValue, LiveTest, live_tests}
-use Rattle.soc_model.specs.Sizes.{test_work, work}
+use Rattle.soc_model.specs.Sizes.{test_work}
 use Rattle.soc_model.specs.SoundChips.{IsSoundChip}
 use Rattle.soc_model.proofs.Limits.{work-le}
 use Rattle.plan_model.specs.Plans.{BusValue, PlanValue, LimitsValue, PlannedTest, planned, planned_test, chains_of, operations_of, widths}
@@ -19,7 +17,7 @@ use Rattle.plan_model.specs.declared.Bus.{Bus}
 use Rattle.live_tests.specs.Wires.{AreFirstWires}
 use Rattle.live_tests.proofs.FirstWires.{all_at}
 use Rattle.bit_machine.specs.Chips.{made_content, wires_of, at_first}
-use Rattle.bit_machine.specs.Lanes.{lane_bits, AreAtRest, IsAtRest, IsFilled, IsLane, IsWired}
+use Rattle.bit_machine.specs.Lanes.{lane_bits, AreAtRest, IsAtRest, IsFilled, IsLane}
 use Rattle.bit_machine.specs.Machines.{lanes_state, AreLanes, AreOnWires, AreSomeLanes, AreSomeStepped, AreStepped, IsMachine}
 use Rattle.bit_machine.specs.Marks.{Keys, Marks}
 use Rattle.bit_machine.specs.Placed.{IsPlacedLane, StandFor}
@@ -36,6 +34,7 @@ use Rattle.bit_machine.proofs.Layouts.{zeros}
 use Rattle.bit_machine.proofs.PlacedLanes.{filled_lane, keyed_lane}
 use Rattle.bit_machine.proofs.WireSteps.{state_is, lanes_width}
 use Rattle.bit_machine.proofs.WholeChip.{chip_view}
+use Rattle.common_lemmas.proofs.Lists.{some_item}
 
 -- ---- the operations of all tests together are within the work
 
@@ -48,81 +47,79 @@ room_of plan (l ∷ ls) short =
     let same : length (planned_test plan l.place l.core l.test).operations ≡ length (operations_of l.core l.test (chains_of plan l.core l.test)) = ap length (planned_operations plan l) in
     let a = sum_by-cons (λ (t : PlannedTest). length t.operations - (0 - t.start)) (planned_test plan l.place l.core l.test) (map (λ (l : LiveTest). planned_test plan l.place l.core l.test) ls) in
     let b = sum_by-cons (λ (l : LiveTest). test_work l.core l.test) l ls in
-    omega (arith, rest, here, same, a, b)
+    omega arith
 
-room_at_first : (soc : SocValue) (limits : LimitsValue) (plan : PlanValue) → IsSoundChip soc → IsGood soc limits plan → to_come (planned soc plan) 0 ≤ 10 ^ 18
+room_at_first : {soc : SocValue} (limits : LimitsValue) (plan : PlanValue) → IsSoundChip soc → IsGood soc limits plan →
+    to_come (planned soc plan) 0 ≤ 10 ^ 18
 unfolding planned
-room_at_first soc limits plan sound good =
+room_at_first {soc} limits plan sound good =
     let part = room_of plan (live_tests soc) (λ i l at. short_test soc plan i l (good Wrappers).1 (good Proper) at) in
-    let all : work soc ≤ 10 ^ 18 = work-le soc sound.size in
+    let all = work-le soc sound.size in
     omega arith
 
 -- ---- a new chip
 
-some_lane : (ls : List Lane) (i : ℕ) → i < length ls → (l : Lane) × (slice_get ls i ≡ Some l)
-some_lane [] i h = absurd (omega arith)
-some_lane (l ∷ ls) zero h = (l, refl)
-some_lane (l ∷ ls) (suc i) h = some_lane ls i (omega arith)
-
-some_test : (ts : List PlannedTest) (i : ℕ) → i < length ts → (t : PlannedTest) × (slice_get ts i ≡ Some t)
-some_test [] i h = absurd (omega arith)
-some_test (t ∷ ts) zero h = (t, refl)
-some_test (t ∷ ts) (suc i) h = some_test ts i (omega arith)
-
 -- the lanes of tests, before any cycle
-rest_stepped : (content : Content) (tests : List PlannedTest) (lanes : List Lane) (stepped : List SteppedLane) → AreLanes (IsLane content) tests lanes → AreAtRest lanes stepped → AreStepped content tests stepped
-rest_stepped content tests lanes stepped are rest = record {
+rest_stepped : {content : Content} {tests : List PlannedTest} {lanes : List Lane} {stepped : List SteppedLane} →
+    AreLanes (IsLane content) tests lanes → AreAtRest lanes stepped → AreStepped content tests stepped
+rest_stepped {content} {tests} {lanes} {stepped} are rest = record {
   long = rest.long ∙ are.long;
   lane = λ i t s at there.
-      let l = some_lane lanes i (omega (arith, rest.long, slice_get_within stepped i s there)) in
+      let l = some_item lanes i (omega (arith, rest.long, slice_get_within stepped i s there)) in
       subst (IsLane content t) (sym (rest.each i l.0 s l.1 there).same) (are.lane i t l.0 at l.1);
   steppable = λ i s there.
-      let within : i < length stepped = slice_get_within stepped i s there in
-      let l = some_lane lanes i (omega (arith, rest.long, within)) in
-      let t = some_test tests i (omega (arith, rest.long, are.long, within)) in
-      rest_steppable l.0 s (are.lane i t.0 l.0 t.1 l.1).ready (rest.each i l.0 s l.1 there);
+      let within = slice_get_within stepped i s there in
+      let l = some_item lanes i (omega (arith, rest.long)) in
+      let t = some_item tests i (omega (arith, rest.long, are.long)) in
+      rest_steppable (rest.each i l.0 s l.1 there) (are.lane i t.0 l.0 t.1 l.1).ready;
 }
 
-pub new_some : (soc : SocValue) (plan : PlanValue) (seed n : ℕ) (lanes : List Lane) (stepped : List SteppedLane) → IsGoodAlone soc plan → n ≡ wires_of plan → AreLanes (IsLane (made_content soc seed)) (planned soc plan) lanes → AreAtRest lanes stepped → AreSomeStepped stepped n
-new_some soc plan seed n lanes stepped good wide are rest = record {
-  content = made_content soc seed;
-  tests = planned soc plan;
-  are = rest_stepped (made_content soc seed) (planned soc plan) lanes stepped are rest;
-  on = subst (AreOnWires (planned soc plan)) (sym wide) (good_wires soc (bare_limits plan) plan good (made_content soc seed));
-}
+module _ (soc : SocValue) (plan : PlanValue) (seed : ℕ) {n : ℕ} {lanes : List Lane} {stepped : List SteppedLane} (good : IsGoodAlone soc plan)
+    (wide : n ≡ wires_of plan) (are : AreLanes (IsLane (made_content soc seed)) (planned soc plan) lanes) (rest : AreAtRest lanes stepped) where
+  pub new_some : AreSomeStepped stepped n
+  new_some = record {
+    content = made_content soc seed;
+    tests = planned soc plan;
+    are = rest_stepped are rest;
+    on = subst (AreOnWires (planned soc plan)) (sym wide) (good_wires soc (bare_limits plan) plan good (made_content soc seed));
+  }
 
-pub new_chip : (soc : SocValue) (plan : PlanValue) (seed n : ℕ) (lanes : List Lane) (stepped : List SteppedLane) (m : Machine) → IsSoundChip soc → IsGoodAlone soc plan → n ≡ wires_of plan → AreLanes (IsLane (made_content soc seed)) (planned soc plan) lanes → AreAtRest lanes stepped →
-    m.cycle ≡ 0 → length m.users.items ≡ n → ((content : Content) (tests : List PlannedTest) → AreStepped content tests stepped → AreOnWires tests n → IsMachine content tests m) → IsChip soc plan seed m 0 0
-new_chip soc plan seed n lanes stepped m sound good wide are rest start users machine = record {
-  sound = sound;
-  good = good;
-  machine = machine (made_content soc seed) (planned soc plan) (rest_stepped (made_content soc seed) (planned soc plan) lanes stepped are rest) (subst (AreOnWires (planned soc plan)) (sym wide) (good_wires soc (bare_limits plan) plan good (made_content soc seed)));
-  wires = users ∙ wide;
-  few = omega arith;
-  room = let first = room_at_first soc (bare_limits plan) plan sound good in rw start (omega (arith, first));
-}
+  pub new_chip : (m : Machine) → IsSoundChip soc → m.cycle ≡ 0 → length m.users.items ≡ n →
+      ((content : Content) (tests : List PlannedTest) → AreStepped content tests stepped → AreOnWires tests n → IsMachine content tests m) →
+      IsChip soc plan seed m 0 0
+  new_chip m sound start users machine = record {
+    sound = sound;
+    good = good;
+    machine = machine (made_content soc seed) (planned soc plan) (rest_stepped are rest) (subst (AreOnWires (planned soc plan)) (sym wide) (good_wires soc (bare_limits plan) plan good (made_content soc seed)));
+    wires = users ∙ wide;
+    few = omega arith;
+    room = let first = room_at_first (bare_limits plan) plan sound good in rw start (omega arith);
+  }
 
--- what is kept of the vectors of a plan
-pub new_vectors : (keys : Keys) (soc : SocValue) (plan : PlanValue) (v : Vectors) → IsGoodAlone soc plan → v.wires ≡ wires_of plan → AreLanes (IsPlacedLane keys soc plan) (planned soc plan) v.lanes.items → AreVectors keys soc plan v
-new_vectors keys soc plan v good wide are = record {
-  are = are;
-  on = subst (AreOnWires (planned soc plan)) (sym wide) (good_wires soc (bare_limits plan) plan good (made_content soc 0));
-  all = wide;
-}
+module _ {keys : Keys} {soc : SocValue} {plan : PlanValue} (v : Vectors) where
+  -- what is kept of the vectors of a plan
+  pub new_vectors : IsGoodAlone soc plan → v.wires ≡ wires_of plan → AreLanes (IsPlacedLane keys soc plan) (planned soc plan) v.lanes.items →
+      AreVectors keys soc plan v
+  new_vectors good wide are = record {
+    are = are;
+    on = subst (AreOnWires (planned soc plan)) (sym wide) (good_wires soc (bare_limits plan) plan good (made_content soc 0));
+    all = wide;
+  }
 
-pub vectors_some : (keys : Keys) (soc : SocValue) (plan : PlanValue) (v : Vectors) → AreVectors keys soc plan v → AreSomeLanes keys v.lanes.items v.wires
-vectors_some keys soc plan v is = record {
-  tests = planned soc plan;
-  are = record { long = is.are.long; lane = λ i t l at there. keyed_lane keys soc plan t l (is.are.lane i t l at there) };
-  on = is.on;
-}
+  pub vectors_some : AreVectors keys soc plan v → AreSomeLanes keys v.lanes.items v.wires
+  vectors_some is = record {
+    tests = planned soc plan;
+    are = record { long = is.are.long; lane = λ i t l at there. keyed_lane (is.are.lane i t l at there) };
+    on = is.on;
+  }
 
-pub vectors_lines : (keys : Keys) (drive : ℕ → ℕ → ℕ → Bool) (mark : ℕ → ℕ → ℕ → ℕ) (soc : SocValue) (plan : PlanValue) (content : Content) (marks : Marks) (v : Vectors) (from count : ℕ) (text : List ℕ) → AreVectors keys soc plan v → StandFor keys drive mark soc content marks →
-    ((content : Content) (marks : Marks) (tests : List PlannedTest) → AreLanes (IsFilled drive mark content marks) tests v.lanes.items → AreOnWires tests v.wires → (r : ℕ) → r < count → IsLineOf content marks tests v.wires (from + r) r text) →
-    (r : ℕ) → r < count → IsLineOf content marks (planned soc plan) (wires_of plan) (from + r) r text
-vectors_lines keys drive mark soc plan content marks v from count text is stand lines r h =
-    subst (λ n. IsLineOf content marks (planned soc plan) n (from + r) r text) is.all
-    (lines content marks (planned soc plan) (record { long = is.are.long; lane = λ i t l at there. filled_lane keys drive mark soc plan content marks t l stand (is.are.lane i t l at there) }) is.on r h)
+  pub vectors_lines : {drive : ℕ → ℕ → ℕ → Bool} {mark : ℕ → ℕ → ℕ → ℕ} {content : Content} {marks : Marks} (from count : ℕ) (text : List ℕ) →
+      AreVectors keys soc plan v → StandFor keys drive mark soc content marks →
+      ((content : Content) (marks : Marks) (tests : List PlannedTest) → AreLanes (IsFilled drive mark content marks) tests v.lanes.items → AreOnWires tests v.wires → (r : ℕ) → r < count → IsLineOf content marks tests v.wires (from + r) r text) →
+      (r : ℕ) → r < count → IsLineOf content marks (planned soc plan) (wires_of plan) (from + r) r text
+  vectors_lines {content} {marks} from count text is stand lines r h =
+      subst (λ n. IsLineOf content marks (planned soc plan) n (from + r) r text) is.all
+      (lines content marks (planned soc plan) (record { long = is.are.long; lane = λ i t l at there. filled_lane (is.are.lane i t l at there) stand }) is.on r h)
 
 some_stepped : (ls : List SteppedLane) (i : ℕ) → i < length ls → (l : SteppedLane) × (slice_get ls i ≡ Some l)
 some_stepped [] i h = absurd (omega arith)
@@ -134,36 +131,42 @@ some_path [] j h = absurd (omega arith)
 some_path (p ∷ ps) zero h = (p, refl)
 some_path (p ∷ ps) (suc j) h = some_path ps j (omega arith)
 
--- only tests over the wires have chains
-over_wires : (content : Content) (t : PlannedTest) (l : Lane) (j : ℕ) → IsLane content t l → j < length t.chains → t.tam ≡ true
-over_wires content t l j is h = elim (cases_Bool t.tam) [
-  | inl yes' ↦ yes'
-  | inr none ↦ absurd (omega (arith, (is.alone none).1))
-]
+module _ {t : PlannedTest} {l : Lane} (j : ℕ) (h : j < length t.chains) where
+  -- only tests over the wires have chains
+  over_wires : {content : Content} → IsLane content t l → t.tam ≡ true
+  over_wires is = elim (cases_Bool t.tam) [
+    | inl yes' ↦ yes'
+    | inr none ↦ absurd (omega (arith, (is.alone none).1))
+  ]
 
--- the bits of a chain before any cycle
-rest_chain : (soc : SocValue) (seed : ℕ) (t : PlannedTest) (l : Lane) (s : SteppedLane) (j : ℕ) → IsLane (made_content soc seed) t l → IsAtRest l s → j < length t.chains → get_or (lane_bits s) j [] ≡ map ((made_content soc seed).initial t.id) (chain_at t j)
-unfolding made_content
-rest_chain soc seed t l s j is rest h =
-    let w : IsWired (made_content soc seed) t l = is.wired (over_wires (made_content soc seed) t l j is h) in
-    let p = some_path l.paths.items j (omega (arith, w.chains, h)) in
-    rest_bits l s j p.0 rest p.1 ∙ sym (zeros (chain_at t j) (p.0).cells (sym (w.path j p.0 p.1).long))
+  -- the bits of a chain before any cycle
+  rest_chain : (soc : SocValue) (seed : ℕ) {s : SteppedLane} → IsLane (made_content soc seed) t l → IsAtRest l s →
+      get_or (lane_bits s) j [] ≡ map ((made_content soc seed).initial t.id) (chain_at t j)
+  unfolding made_content
+  rest_chain soc seed is rest =
+      let w = is.wired (over_wires is) in
+      let p = some_path l.paths.items j (omega (arith, w.chains)) in
+      rest_bits rest j p.1 ∙ sym (zeros (chain_at t j) (p.0).cells (sym (w.path j p.0 p.1).long))
 
-pub new_state : (soc : SocValue) (seed : ℕ) (tests : List PlannedTest) (lanes : List Lane) (stepped : List SteppedLane) (m : Machine) → IsMachine (made_content soc seed) tests m → lanes_state m.lanes.items ≡ lanes_state stepped → AreLanes (IsLane (made_content soc seed)) tests lanes → AreAtRest lanes stepped → lanes_state m.lanes.items ≡ first_state (made_content soc seed) tests
+pub new_state : (soc : SocValue) (seed : ℕ) {tests : List PlannedTest} {lanes : List Lane} {stepped : List SteppedLane} {m : Machine} →
+    IsMachine (made_content soc seed) tests m → lanes_state m.lanes.items ≡ lanes_state stepped →
+    AreLanes (IsLane (made_content soc seed)) tests lanes → AreAtRest lanes stepped →
+    lanes_state m.lanes.items ≡ first_state (made_content soc seed) tests
 unfolding first_state
-new_state soc seed tests lanes stepped m is same are rest =
+new_state soc seed {tests} {lanes} {stepped} {m} is same are rest =
     let content = made_content soc seed in
-    state_is (λ i t j. map (content.initial t.id) (chain_at t j)) 0 tests (lanes_state m.lanes.items) (length-map m.lanes.items lane_bits ∙ is.lanes.long) (lanes_width content tests m is) (λ i j t at h.
-    let within : i < length tests = slice_get_within tests i t at in
-    let l = some_lane lanes i (omega (arith, are.long, within)) in
-    let s = some_stepped stepped i (omega (arith, rest.long, are.long, within)) in
+    state_is (λ i t j. map (content.initial t.id) (chain_at t j)) 0 tests (lanes_state m.lanes.items) (length-map m.lanes.items lane_bits ∙ is.lanes.long) (lanes_width is) (λ i j t at h.
+    let within = slice_get_within tests i t at in
+    let l = some_item lanes i (omega (arith, are.long)) in
+    let s = some_stepped stepped i (omega (arith, rest.long, are.long)) in
     ap (λ state. bits_at state i j) same ∙ ap (λ bits. get_or bits j []) (get_or-map lane_bits stepped i s.0 [] (slice_get_within stepped i s.0 s.1) ∙ ap lane_bits (get_or_from_slice_get stepped i s.0 s.0 s.1))
-    ∙ rest_chain soc seed t l.0 s.0 j (are.lane i t l.0 at l.1) (rest.each i l.0 s.0 l.1 s.1) h)
+    ∙ rest_chain j h soc seed (are.lane i t l.0 at l.1) (rest.each i l.0 s.0 l.1 s.1))
 
 pub first_value : (s : SocValue) (p : PlanValue) (seed : ℕ) (m : Machine) → m.cycle ≡ 0 → lanes_state m.lanes.items ≡ first_state (made_content s seed) (planned s p) → chip_view s p seed m 0 0 ≡ at_first s p seed
-first_value s p seed m e f = rw (e, f) refl
+first_value s p seed m start f = rw (start, f) refl
 
 -- the entry behind the first wires of all buses
-pub wires_are : (buses : List Bus) (plan : PlanValue) (firsts : List ℕ) (count wires : ℕ) → plan.buses ≡ map bus_value buses → AreFirstWires (widths plan) firsts → count ≡ length buses → wires ≡ get_or firsts count wires → wires ≡ wires_of plan
-wires_are buses plan firsts count wires is are all at =
+pub wires_are : (buses : List Bus) (plan : PlanValue) {firsts : List ℕ} (count : ℕ) {wires : ℕ} → plan.buses ≡ map bus_value buses →
+    AreFirstWires (widths plan) firsts → count ≡ length buses → wires ≡ get_or firsts count wires → wires ≡ wires_of plan
+wires_are buses plan {firsts} count {wires} is are all at =
     all_at (widths plan) firsts count wires are (all ∙ sym (length-map buses bus_value) ∙ ap length (sym is) ∙ sym (length-map plan.buses (λ (b : BusValue). b.width))) at

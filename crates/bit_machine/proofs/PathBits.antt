@@ -1,10 +1,8 @@
 -- What a chain holds, and what a capture leaves in it, cell by cell.
-use Rattle.std.proofs.Common.{◌≡◌, ℕ, zero, suc, ◌+◌, ◌-◌, ◌≤◌, ◌<◌, ◌⊎◌, Bool, true, false, true≢false, not, List, [], ◌∷◌, length, get_or, refl, ap, sym, ◌∙◌, arith, inl, inr}
-use Rattle.std.specs.Prelude.{◌||◌, ◌&&◌, slice_index}
+use Rattle.std.proofs.Common.{◌≡◌, ℕ, zero, suc, ◌+◌, ◌-◌, ◌≤◌, ◌<◌, ◌⊎◌, Bool, true, false, true≢false, not, List, [], ◌∷◌, length, get_or, refl, ap, sym, ◌∙◌, arith, inl, inr, ◌||◌, slice_index}
 use Rattle.std.proofs.lemmas.List.{same_lists}
 use Rattle.std.proofs.lemmas.Bool.{cases_lt}
-use mathlib.Core.Bool.{beq}
-use Rattle.plan_model.specs.Cells.{Cell, In, is_loaded, is_read, in_length, out_length}
+use Rattle.plan_model.specs.Cells.{Cell, In, is_loaded, is_read, in_length}
 use Rattle.plan_model.specs.Runs.{captured}
 use Rattle.plan_model.proofs.ChainShifts.{get_or-captured, length-captured}
 use Rattle.bit_machine.specs.Chips.{same_bit, chain_holds}
@@ -12,6 +10,7 @@ use Rattle.bit_machine.specs.declared.path.Path.{Path}
 use Rattle.bit_machine.specs.Paths.{IsPath, path_stimulus, path_response, made_from}
 use Rattle.common_lemmas.proofs.Lists.{any_default}
 use Rattle.common_lemmas.proofs.Tests.{and_false}
+use mathlib.Core.Bool.{beq}
 
 -- ---- what a chain holds
 
@@ -25,36 +24,40 @@ same_bit_differs true false e = refl
 same_bit_differs false true e = refl
 same_bit_differs false false e = absurd (e refl)
 
-pub holds_true : (f : Cell → Bool) (cells : List Cell) (bits : List Bool) → length bits ≡ length cells → ((r : ℕ) → r < length cells → is_loaded (get_or cells r (In 0)) ≡ true → get_or bits r false ≡ f (get_or cells r (In 0))) → chain_holds f cells bits ≡ true
-holds_true f [] bits long each = refl
-holds_true f (x ∷ cells) [] long each = absurd (omega arith)
-holds_true f (x ∷ cells) (b ∷ bits) long each = rw (here (is_loaded x) refl) (holds_true f cells bits (omega arith) (λ r h loaded. each (suc r) (omega arith) loaded)) where
-  here : (l : Bool) → is_loaded x ≡ l → (not (is_loaded x) || same_bit b (f x)) ≡ true
-  here true e = let same : b ≡ f x = each 0 (omega arith) e in rw (e, same) (same_bit_itself (f x))
-  here false e = rw e refl
+module _ (f : Cell → Bool) where
+  pub holds_true : (cells : List Cell) (bits : List Bool) → length bits ≡ length cells →
+      ((r : ℕ) → r < length cells → is_loaded (get_or cells r (In 0)) ≡ true → get_or bits r false ≡ f (get_or cells r (In 0))) →
+      chain_holds f cells bits ≡ true
+  holds_true [] bits long each = refl
+  holds_true (x ∷ cells) [] long each = absurd (omega arith)
+  holds_true (x ∷ cells) (b ∷ bits) long each = rw (here (is_loaded x) refl) (holds_true cells bits (omega arith) (λ r h loaded. each (suc r) (omega arith) loaded)) where
+    here : (l : Bool) → is_loaded x ≡ l → (not (is_loaded x) || same_bit b (f x)) ≡ true
+    here true e = let same = each 0 (omega arith) e in rw (e, same) (same_bit_itself (f x))
+    here false e = rw e refl
 
-holds_false : (f : Cell → Bool) (cells : List Cell) (bits : List Bool) (r : ℕ) → length bits ≡ length cells → r < length cells → is_loaded (get_or cells r (In 0)) ≡ true → (get_or bits r false ≡ f (get_or cells r (In 0)) → ⊥) → chain_holds f cells bits ≡ false
-holds_false f [] bits r long h loaded differs = absurd (omega arith)
-holds_false f (x ∷ cells) [] r long h loaded differs = absurd (omega arith)
-holds_false f (x ∷ cells) (b ∷ bits) zero long h loaded differs = rw (loaded, same_bit_differs b (f x) differs) refl
-holds_false f (x ∷ cells) (b ∷ bits) (suc r) long h loaded differs =
-    let later : chain_holds f cells bits ≡ false = holds_false f cells bits r (omega arith) (omega arith) loaded differs in
-    rw later (and_false (not (is_loaded x) || same_bit b (f x)))
+  holds_false : (cells : List Cell) (bits : List Bool) (r : ℕ) → length bits ≡ length cells → r < length cells →
+      is_loaded (get_or cells r (In 0)) ≡ true → (get_or bits r false ≡ f (get_or cells r (In 0)) → ⊥) → chain_holds f cells bits ≡ false
+  holds_false [] bits r long h loaded differs = absurd (omega arith)
+  holds_false (x ∷ cells) [] r long h loaded differs = absurd (omega arith)
+  holds_false (x ∷ cells) (b ∷ bits) zero long h loaded differs = rw (loaded, same_bit_differs b (f x) differs) refl
+  holds_false (x ∷ cells) (b ∷ bits) (suc r) long h loaded differs =
+      let later = holds_false cells bits r (omega arith) (omega arith) loaded differs in
+      rw later (and_false (not (is_loaded x) || same_bit b (f x)))
 
-pub path_holds : (base k inputs : ℕ) (lengths : List ℕ) (cells : List Cell) (p : Path) (bits : List Bool) → IsPath inputs lengths cells p → length bits ≡ p.cells →
-    ((r : ℕ) → r < length p.loads → get_or bits r false ≡ made_from base k (slice_index p.loads r) 0) → true ≡ chain_holds (path_stimulus base inputs lengths k) cells bits
-path_holds base k inputs lengths cells p bits is all each = sym (holds_true (path_stimulus base inputs lengths k) cells bits (all ∙ is.long) (λ r h loaded. here r h loaded (cases_lt r (in_length cells)))) where
-  here : (r : ℕ) → r < length cells → is_loaded (get_or cells r (In 0)) ≡ true → (r < in_length cells) ⊎ (in_length cells ≤ r) → get_or bits r false ≡ path_stimulus base inputs lengths k (get_or cells r (In 0))
-  here r h loaded (inl less) = let long : length p.loads ≡ in_length cells = is.loads_long in each r (omega arith) ∙ ap (λ n. made_from base k n 0) (is.load r less)
-  here r h loaded (inr past) = absurd (true≢false (sym loaded ∙ is.chain.unloaded r past h))
+module _ (base k : ℕ) {inputs : ℕ} {lengths : List ℕ} {cells : List Cell} {p : Path} (bits : List Bool) (is : IsPath inputs lengths cells p)
+    (all : length bits ≡ p.cells) where
+  pub path_holds : ((r : ℕ) → r < length p.loads → get_or bits r false ≡ made_from base k (slice_index p.loads r) 0) →
+      true ≡ chain_holds (path_stimulus base inputs lengths k) cells bits
+  path_holds each = sym (holds_true (path_stimulus base inputs lengths k) cells bits (all ∙ is.long) (λ r h loaded. here r h loaded (cases_lt r (in_length cells)))) where
+    here : (r : ℕ) → r < length cells → is_loaded (get_or cells r (In 0)) ≡ true → (r < in_length cells) ⊎ (in_length cells ≤ r) → get_or bits r false ≡ path_stimulus base inputs lengths k (get_or cells r (In 0))
+    here r h loaded (inl less) = let long = is.loads_long in each r (omega arith) ∙ ap (λ n. made_from base k n 0) (is.load r less)
+    here r h loaded (inr past) = absurd (true≢false (sym loaded ∙ is.chain.unloaded r past h))
 
-pub path_differs : (base k inputs r : ℕ) (lengths : List ℕ) (cells : List Cell) (p : Path) (bits : List Bool) → IsPath inputs lengths cells p → length bits ≡ p.cells → r < length p.loads →
-    (get_or bits r false ≡ made_from base k (slice_index p.loads r) 0 → ⊥) → false ≡ chain_holds (path_stimulus base inputs lengths k) cells bits
-path_differs base k inputs r lengths cells p bits is all h differs =
-    let long : length p.loads ≡ in_length cells = is.loads_long in
-    let fit : in_length cells ≤ length cells = is.chain.in_fit in
-    let less : r < in_length cells = omega arith in
-    sym (holds_false (path_stimulus base inputs lengths k) cells bits r (all ∙ is.long) (omega arith) (is.chain.loaded r less) (λ same. differs (same ∙ sym (ap (λ n. made_from base k n 0) (is.load r less)))))
+  pub path_differs : (r : ℕ) → r < length p.loads → (get_or bits r false ≡ made_from base k (slice_index p.loads r) 0 → ⊥) →
+      false ≡ chain_holds (path_stimulus base inputs lengths k) cells bits
+  path_differs r h differs =
+      let less : r < in_length cells = omega arith in
+      sym (holds_false (path_stimulus base inputs lengths k) cells bits r (all ∙ is.long) (omega arith) (is.chain.loaded r less) (λ same. differs (same ∙ sym (ap (λ n. made_from base k n 0) (is.load r less)))))
 
 -- ---- what a capture leaves
 
@@ -70,9 +73,10 @@ pub record CaptureDone (base k from q : ℕ) (answers : List ℕ) (old new : Lis
   pub done : (j : ℕ) → from ≤ j → j < from + q → get_or new j false ≡ made_from base k (slice_index answers (j - from)) 1
   pub before : (j : ℕ) → j < from → get_or new j false ≡ get_or old j false
 
-pub path_captured : (base k inputs from q : ℕ) (lengths : List ℕ) (cells : List Cell) (p : Path) (bits new : List Bool) → IsPath inputs lengths cells p → length bits ≡ p.cells → from ≡ length bits - length p.answers →
-    length p.answers ≤ q → CaptureDone base k from q p.answers bits new → new ≡ captured (path_response base lengths k) cells bits
-path_captured base k inputs from q lengths cells p bits new is same at all d =
+pub path_captured : {base k inputs from q : ℕ} {lengths : List ℕ} {cells : List Cell} {p : Path} {bits new : List Bool} →
+    IsPath inputs lengths cells p → length bits ≡ p.cells → from ≡ length bits - length p.answers → length p.answers ≤ q →
+    CaptureDone base k from q p.answers bits new → new ≡ captured (path_response base lengths k) cells bits
+path_captured {base} {k} {from} {lengths} {cells} {bits} {new} is same at all d =
     same_lists new (captured (path_response base lengths k) cells bits) (d.long ∙ sym (length-captured (path_response base lengths k) cells bits))
     (λ j e h. any_default new j e false h ∙ here j h (cases_lt j from) ∙ any_default (captured (path_response base lengths k) cells bits) j false e (within j h))
   where
@@ -81,16 +85,16 @@ path_captured base k inputs from q lengths cells p bits new is same at all d =
 
     here : (j : ℕ) → j < length new → (j < from) ⊎ (from ≤ j) → get_or new j false ≡ get_or (captured (path_response base lengths k) cells bits) j false
     here j h (inl less) =
-        let l : length new ≡ length bits = d.long in
+        let l = d.long in
         let m : length bits ≡ length cells = same ∙ is.long in
-        let n : length p.answers ≡ out_length cells = is.answers_long in
-        let fit : out_length cells ≤ length cells = is.chain.out_fit in
+        let n = is.answers_long in
+        let fit = is.chain.out_fit in
         d.before j less ∙ sym (captured_unread (path_response base lengths k) cells bits j (omega arith) (omega arith) (is.chain.unread j (omega arith)))
     here j h (inr past) =
-        let l : length new ≡ length bits = d.long in
+        let l = d.long in
         let m : length bits ≡ length cells = same ∙ is.long in
-        let n : length p.answers ≡ out_length cells = is.answers_long in
-        let fit : out_length cells ≤ length cells = is.chain.out_fit in
+        let n = is.answers_long in
+        let fit = is.chain.out_fit in
         d.done j past (omega arith) ∙ ap (λ n. made_from base k n 1) (is.answer j (j - from) (omega arith) (omega arith))
         ∙ sym (get_or-captured (path_response base lengths k) cells bits j (omega arith) (omega arith) (is.chain.read j (omega arith) (omega arith)))
 

@@ -1,7 +1,6 @@
 -- The lane of a live test is that of its planned test.
-use Rattle.std.proofs.Common.{◌≡◌, ◌≢◌, ℕ, zero, suc, ◌+◌, ◌*◌, ◌^◌, ◌≤◌, ◌<◌, ◌⊎◌, Bool, true, false, true≢false, max, min, None, Some, List, [], ◌∷◌, length, get_or, map, option_map, take, refl, ap, sym, subst, ◌∙◌, arith, inl, inr}
-use Rattle.std.specs.Prelude.{slice_get, slice_index, nat_eq}
-use Rattle.std.specs.List.{sum, sum_by, position_or_len}
+use Rattle.std.proofs.Common.{◌≡◌, ◌≢◌, ℕ, zero, suc, ◌+◌, ◌*◌, ◌^◌, ◌≤◌, ◌<◌, ◌⊎◌, Bool, true, false, true≢false, max, min, None, Some, List, [], ◌∷◌, length, get_or, map, option_map, take, refl, ap, sym, subst, ◌∙◌, arith, inl, inr, slice_get, slice_index, nat_eq, sum, sum_by}
+use Rattle.std.specs.List.{position_or_len}
 use Rattle.std.proofs.Math.Path.{fun_ext}
 use Rattle.std.proofs.lemmas.List.{length-map, get_or-map, get_or_past}
 use Rattle.std.proofs.lemmas.Option.{slice_get_within, get_or_from_slice_get, same_Some, slice_get-map}
@@ -21,13 +20,13 @@ use Rattle.plan_model.specs.declared.Bus.{Bus}
 use Rattle.plan_model.specs.Views.{bus_value, chain_value, wrapper_value}
 use Rattle.plan_model.specs.Runs.{Content, chain_at}
 use Rattle.plan_model.proofs.CellOrder.{length-dealt}
-use Rattle.plan_model.proofs.ProperByCounts.{IsCounted, proper_is_counted}
+use Rattle.plan_model.proofs.ProperByCounts.{proper_is_counted}
 use Rattle.bit_machine.specs.Layouts.{layout_cells}
 use Rattle.bit_machine.specs.declared.layout.Layout.{Layout}
 use Rattle.plan_model.proofs.OperationCounts.{ops_length}
 use Rattle.plan_model.proofs.Greatest.{le-greatest}
 use Rattle.plan_model.proofs.Lists.{from_filter}
-use Rattle.plan_model.proofs.PlannedTests.{IsLive, live_at, of_first_is, Wrapped, wrapped}
+use Rattle.plan_model.proofs.PlannedTests.{live_at, of_first_is, wrapped}
 use Rattle.plan_model.proofs.ShortTests.{short_planned}
 use Rattle.plan_model.specs.Right.{IsAt}
 use Rattle.live_tests.specs.declared.placed.PlacedTest.{PlacedTest}
@@ -52,62 +51,61 @@ use Rattle.common_lemmas.proofs.Lists.{slice_at, in_filter}
 
 -- a number stands at one place
 differ_tail : (n : ℕ) (ns : List ℕ) → AllDiffer (n ∷ ns) → AllDiffer ns
-differ_tail n ns d p q k a b = let e : suc p ≡ suc q = d (suc p) (suc q) k a b in omega arith
+differ_tail n ns d p q k a b = let e = d (suc p) (suc q) k a b in omega arith
 
-first_place : (ts : List Test) (q : ℕ) (t : Test) → AllDiffer (map (λ (t : Test). t.number) ts) → slice_get ts q ≡ Some t → position_or_len (λ (u : Test). nat_eq u.number t.number) ts ≡ q
-first_place [] q t d at = absurd cc
-first_place (u ∷ ts) zero t d at =
-    let same : u ≡ t = same_Some _ _ at in
+first_place : (ts : List Test) (q : ℕ) {t : Test} → AllDiffer (map (λ (t : Test). t.number) ts) → slice_get ts q ≡ Some t →
+    position_or_len (λ (u : Test). nat_eq u.number t.number) ts ≡ q
+first_place [] q d at = absurd cc
+first_place (u ∷ ts) zero {t} d at =
+    let same = same_Some _ _ at in
     rw (same, eq-eqb t.number t.number refl) refl
-first_place (u ∷ ts) (suc q) t d at =
+first_place (u ∷ ts) (suc q) {t} d at =
     let there : slice_get (map (λ (t : Test). t.number) ts) q ≡ Some t.number = slice_get-map (λ (t : Test). t.number) ts q ∙ rw at refl in
-    let other : u.number ≢ t.number = λ e. zero_suc (d 0 (suc q) t.number (ap Some e) there) in
-    rw (ne_eqb u.number t.number other) (ap (λ v. 1 + v) (first_place ts q t (differ_tail u.number (map (λ (t : Test). t.number) ts) d) at) ∙ one_more q)
-  where
-    zero_suc : {n : ℕ} → 0 ≡ suc n → ⊥
-    zero_suc e = cc
+    let other : u.number ≢ t.number = λ e. omega (arith, d 0 (suc q) t.number (ap Some e) there) in
+    rw (ne_eqb u.number t.number other) (ap (λ v. 1 + v) (first_place ts q (differ_tail u.number (map (λ (t : Test). t.number) ts) d) at) ∙ omega arith)
 
-    one_more : (n : ℕ) → 1 + n ≡ suc n
-    one_more n = omega arith
-
-sound_module : (soc : SocValue) → IsSoundChip soc → (p : ℕ) (m : ModuleValue) → slice_get soc.modules p ≡ Some m → IsSoundModule m
-sound_module soc sound p m at = subst IsSoundModule (get_or_from_slice_get soc.modules p m m at) (sound.modules p m (slice_get_within soc.modules p m at))
+sound_module : {soc : SocValue} → IsSoundChip soc → (p : ℕ) {m : ModuleValue} → slice_get soc.modules p ≡ Some m → IsSoundModule m
+sound_module {soc} sound p {m} at = subst IsSoundModule (get_or_from_slice_get soc.modules p m m at) (sound.modules p m (slice_get_within soc.modules p m at))
 
 same_live : (y : LiveTest) (p : ℕ) (m : ModuleValue) (t : Test) → y.place ≡ p → y.core ≡ m → y.test ≡ t → y ≡ the_live p m t
 same_live y p m t a b c = rw (← a, ← b, ← c) refl
 
 -- the tests of a name are one
-one_live : (soc : SocValue) → IsSoundChip soc → (p q : ℕ) (m : ModuleValue) (t : Test) → slice_get soc.modules p ≡ Some m → slice_get m.tests q ≡ Some t → (j : ℕ) (y : LiveTest) → slice_get (live_tests soc) j ≡ Some y → same_test (id_of y) (id_of (the_live p m t)) ≡ true → y ≡ the_live p m t
-one_live soc sound p q m t at there j y here same =
+one_live : {soc : SocValue} → IsSoundChip soc → (p q : ℕ) {m : ModuleValue} {t : Test} → slice_get soc.modules p ≡ Some m →
+    slice_get m.tests q ≡ Some t → (j : ℕ) {y : LiveTest} → slice_get (live_tests soc) j ≡ Some y →
+    same_test (id_of y) (id_of (the_live p m t)) ≡ true → y ≡ the_live p m t
+one_live {soc} sound p q {m} {t} at there j {y} here same =
     let names = and_parts (nat_eq y.core.number m.number) (nat_eq y.test.number t.number) same in
-    let module_is : y.core.number ≡ m.number = eqb-true y.core.number m.number names.0 in
-    let test_is : y.test.number ≡ t.number = eqb-true y.test.number t.number names.1 in
-    let o : IsLive soc.modules 0 y = live_at soc.modules 0 j y here in
-    let place : o.up ≡ p = module-unique (IsKeyed-from_sound sound) o.up p y.core m o.module_at at module_is in
-    let core : y.core ≡ m = same_Some _ _ (sym o.module_at ∙ ap (slice_get soc.modules) place ∙ at) in
+    let module_is = eqb-true y.core.number m.number names.0 in
+    let test_is = eqb-true y.test.number t.number names.1 in
+    let o = live_at soc.modules 0 j y here in
+    let place = module-unique (IsKeyed-from_sound sound) o.up p y.core m o.module_at at module_is in
+    let core = same_Some _ _ (sym o.module_at ∙ ap (slice_get soc.modules) place ∙ at) in
     let f = from_filter is_live y.core.tests o.n y.test o.test_at in
     let there' : slice_get m.tests f.0 ≡ Some y.test = subst (λ (m : ModuleValue). slice_get m.tests f.0 ≡ Some y.test) core f.1 in
     let number' : slice_get (map (λ (t : Test). t.number) m.tests) f.0 ≡ Some t.number = slice_get-map (λ (t : Test). t.number) m.tests f.0 ∙ rw there' (ap Some test_is) in
     let number : slice_get (map (λ (t : Test). t.number) m.tests) q ≡ Some t.number = slice_get-map (λ (t : Test). t.number) m.tests q ∙ rw there refl in
-    let q_is : f.0 ≡ q = (sound_module soc sound p m at).tests_differ f.0 q t.number number' number in
-    let test : y.test ≡ t = same_Some _ _ (sym there' ∙ ap (slice_get m.tests) q_is ∙ there) in
-    same_live y p m t (let e : y.place ≡ 0 + o.up = o.place_is in omega arith) core test
+    let q_is : f.0 ≡ q = (sound_module sound p at).tests_differ f.0 q t.number number' number in
+    let test = same_Some _ _ (sym there' ∙ ap (slice_get m.tests) q_is ∙ there) in
+    same_live y p m t (let e = o.place_is in omega arith) core test
 
 itself : (id : TestId) → same_test id id ≡ true
 itself id = rw (eq-eqb id.module id.module refl, eq-eqb id.test id.test refl) refl
 
-pub of_the_live : (soc : SocValue) → IsSoundChip soc → (p q : ℕ) (m : ModuleValue) (t : Test) → slice_get soc.modules p ≡ Some m → slice_get m.tests q ≡ Some t → is_live t ≡ true → (f : LiveTest → Bool) → of_live soc (id_of (the_live p m t)) f ≡ f (the_live p m t)
+pub of_the_live : (soc : SocValue) → IsSoundChip soc → (p q : ℕ) (m : ModuleValue) (t : Test) → slice_get soc.modules p ≡ Some m → slice_get m.tests q ≡ Some t → is_live t ≡ true → (f : LiveTest → Bool) →
+    of_live soc (id_of (the_live p m t)) f ≡ f (the_live p m t)
 of_the_live soc sound p q m t at there live f =
     let n = in_filter is_live m.tests q t there live in
     let i = in_live soc.modules 0 p n.0 p m t (omega arith) at n.1 in
-    let here : slice_get (live_tests soc) i.0 ≡ Some (the_live p m t) = i.1 in
+    let here = i.1 in
     let r = of_first_is (λ (l : LiveTest). same_test (id_of l) (id_of (the_live p m t))) f false (live_tests soc) i.0 (the_live p m t) here (itself (id_of (the_live p m t))) in
-    r.4 ∙ ap f (one_live soc sound p q m t at there r.0 r.1 r.2 r.3)
+    r.4 ∙ ap f (one_live sound p q at there r.0 r.2 r.3)
 
 -- what the live tests say of the name of one of them
-pub live_content : (soc : SocValue) → IsSoundChip soc → (i : ℕ) (l : LiveTest) → slice_get (live_tests soc) i ≡ Some l → (f : LiveTest → Bool) → of_live soc (id_of l) f ≡ f l
-live_content soc sound i l at f =
-    let o : IsLive soc.modules 0 l = live_at soc.modules 0 i l at in
+pub live_content : {soc : SocValue} → IsSoundChip soc → (i : ℕ) {l : LiveTest} → slice_get (live_tests soc) i ≡ Some l → (f : LiveTest → Bool) →
+    of_live soc (id_of l) f ≡ f l
+live_content {soc} sound i {l} at f =
+    let o = live_at soc.modules 0 i l at in
     let g = from_filter is_live l.core.tests o.n l.test o.test_at in
     let same : l ≡ the_live o.up l.core l.test = same_live l o.up l.core l.test (let e : l.place ≡ 0 + o.up = o.place_is in omega arith) refl refl in
     of_the_live soc sound o.up g.0 l.core l.test o.module_at g.1 g.2 f ∙ ap f (sym same)
@@ -134,14 +132,15 @@ over_none : (tam : Bool) (bus : ℕ) → bus_over tam bus ≡ None → tam ≡ f
 over_none true bus e = cc
 over_none false bus e = refl
 
-over_some : (tam : Bool) (bus over : ℕ) → bus_over tam bus ≡ Some over → (tam ≡ true) × (bus ≡ over)
-over_some true bus over e = (refl, same_Some bus over e)
-over_some false bus over e = absurd cc
+over_some : (tam : Bool) (bus : ℕ) {over : ℕ} → bus_over tam bus ≡ Some over → (tam ≡ true) × (bus ≡ over)
+over_some true bus {over} e = (refl, same_Some bus over e)
+over_some false bus e = absurd cc
 
-self_new : (keys : Keys) (soc : SocValue) (plan : PlanValue) (i : ℕ) (live : LiveTest) (u : PlannedTest) (placed : PlacedTest) (l : Lane) → slice_get (live_tests soc) i ≡ Some live → u ≡ planned_test plan live.place live.core live.test → PlannedIs plan live.place live.core live.test u →
-    placed ≡ placed_of u → placed.bus ≡ None → IsSelfLane placed l → IsPlacedLane keys soc plan u l
-self_new keys soc plan i live u placed l there planned is same none lane =
-    let self' : u.tam ≡ false = over_none u.tam u.bus (ap (λ (q : PlacedTest). q.bus) (sym same) ∙ none) in
+self_new : (keys : Keys) (soc : SocValue) {plan : PlanValue} (i : ℕ) {live : LiveTest} {u : PlannedTest} {placed : PlacedTest} {l : Lane} →
+    slice_get (live_tests soc) i ≡ Some live → u ≡ planned_test plan live.place live.core live.test →
+    PlannedIs plan live.place live.core live.test u → placed ≡ placed_of u → placed.bus ≡ None → IsSelfLane placed l → IsPlacedLane keys soc plan u l
+self_new keys soc i {live} {u} there planned is same none lane =
+    let self' = over_none u.tam u.bus (ap (λ (q : PlacedTest). q.bus) (sym same) ∙ none) in
     let self : live.test.tam ≡ false = sym is.tam ∙ self' in
     record {
       place = i;
@@ -180,14 +179,17 @@ long_ops : (setup si so p n : ℕ) → 1 ≤ p → setup + (1 + max si so) * p +
 long_ops setup si so zero n some h = absurd (omega arith)
 long_ops setup si so (suc p) n some h = (omega arith, omega arith)
 
-wired_new : (keys : Keys) (soc : SocValue) (sound : IsSoundChip soc) (plan : PlanValue) (p q i : ℕ) (m : ModuleValue) (t : Test) (u : PlannedTest) (placed : PlacedTest) (over : ℕ) (l : Lane) → slice_get soc.modules p ≡ Some m → slice_get m.tests q ≡ Some t → is_live t ≡ true
-    → slice_get (live_tests soc) i ≡ Some (the_live p m t) → length (operations_of m t (chains_of plan m t)) ≤ 10 ^ 18 → u ≡ planned_test plan p m t → PlannedIs plan p m t u → placed ≡ placed_of u → placed.bus ≡ Some over → IsWiredLane keys plan p over q placed m t l → IsPlacedLane keys soc plan u l
-wired_new keys soc sound plan p q i m t u placed over l at there live here fits planned is same on lane = record {
+wired_new : {keys : Keys} {soc : SocValue} (sound : IsSoundChip soc) {plan : PlanValue} {p q : ℕ} (i : ℕ) {m : ModuleValue} {t : Test}
+    {u : PlannedTest} {placed : PlacedTest} {over : ℕ} {l : Lane} → slice_get soc.modules p ≡ Some m → slice_get m.tests q ≡ Some t →
+    is_live t ≡ true → slice_get (live_tests soc) i ≡ Some (the_live p m t) → length (operations_of m t (chains_of plan m t)) ≤ 10 ^ 18 →
+    u ≡ planned_test plan p m t → PlannedIs plan p m t u → placed ≡ placed_of u → placed.bus ≡ Some over →
+    IsWiredLane keys plan p over q placed m t l → IsPlacedLane keys soc plan u l
+wired_new {keys} sound {plan} {p} {q} i {m} {t} {u} {over} {l} at there live here fits planned is same on lane = record {
   place = i;
   live = the_live p m t;
   there = here;
   planned = planned;
-  key = λ _. lane.key ∙ ap (λ n. keys p n (id_of (the_live p m t))) (sym (first_place m.tests q t (sound_module soc sound p m at).tests_differ there));
+  key = λ _. lane.key ∙ ap (λ n. keys p n (id_of (the_live p m t))) (sym (first_place m.tests q (sound_module sound p at).tests_differ there));
   none = λ none. absurd (true≢false (sym (is.tam ∙ tam) ∙ none));
   fitted = record {
     phases = phases;
@@ -200,7 +202,7 @@ wired_new keys soc sound plan p q i m t u placed over l at there live here fits 
 }
   where
     over_it : (u.tam ≡ true) × (u.bus ≡ over)
-    over_it = over_some u.tam u.bus over (ap (λ (q : PlacedTest). q.bus) (sym same) ∙ on)
+    over_it = over_some u.tam u.bus (ap (λ (q : PlacedTest). q.bus) (sym same) ∙ on)
 
     tam : t.tam ≡ true
     tam = sym is.tam ∙ over_it.0
@@ -219,8 +221,8 @@ wired_new keys soc sound plan p q i m t u placed over l at there live here fits 
 
     short : l.phases.setup + (1 + max l.phases.si l.phases.so) * l.phases.patterns + min l.phases.si l.phases.so ≤ 10 ^ 18
     short =
-        let long : length (phase_ops l.phases) ≡ l.phases.setup + (1 + max l.phases.si l.phases.so) * l.phases.patterns + min l.phases.si l.phases.so = ops_length l.phases.setup l.phases.si l.phases.so l.phases.patterns (rw lane.patterns some) in
-        let few : length (operations_of m t (chains_of plan m t)) ≤ 10 ^ 18 = fits in
+        let long = ops_length l.phases.setup l.phases.si l.phases.so l.phases.patterns (rw lane.patterns some) in
+        let few = fits in
         let same : length (operations_of m t (chains_of plan m t)) ≡ length (phase_ops l.phases) = ap length (of_test ∙ ops) in
         omega arith
 
@@ -245,133 +247,152 @@ wired_new keys soc sound plan p q i m t u placed over l at there live here fits 
 
 -- ---- what is looked up
 
-pub wrapper_within : (plan : PlanValue) (m : ModuleValue) (scan : Bool) (long : ModeWrapper) (ws : List Wrapper) → plan.wrappers ≡ map wrapper_value ws → IsModeWrapper plan m scan long → long.place < length ws
-wrapper_within plan m scan long ws are is = omega (arith, slice_get_within plan.wrappers long.place is.wrapper is.at, ap (λ (vs : List WrapperValue). length vs) are, length-map ws wrapper_value)
+module _ {plan : PlanValue} {m : ModuleValue} {scan : Bool} {long : ModeWrapper} (ws : List Wrapper) (are : plan.wrappers ≡ map wrapper_value ws)
+    (is : IsModeWrapper plan m scan long) where
+  pub wrapper_within : long.place < length ws
+  wrapper_within = omega (arith, slice_get_within plan.wrappers long.place is.wrapper is.at, ap (λ (vs : List WrapperValue). length vs) are, length-map ws wrapper_value)
 
--- the wrapper that was found, walked once
-pub found_wrapper : (plan : PlanValue) (m : ModuleValue) (scan : Bool) (long : ModeWrapper) (ws : List Wrapper) (w : Wrapper) → plan.wrappers ≡ map wrapper_value ws → (is : IsModeWrapper plan m scan long) → w ≡ get_or ws long.place w → is.wrapper ≡ wrapper_value w
-found_wrapper plan m scan long ws w are is at =
-    same_Some is.wrapper (wrapper_value w)
-    (sym is.at ∙ ap (λ (vs : List WrapperValue). slice_get vs long.place) are ∙ slice_get-map wrapper_value ws long.place ∙ ap (option_map wrapper_value) (slice_at ws long.place w (wrapper_within plan m scan long ws are is) at))
+  -- the wrapper that was found, walked once
+  pub found_wrapper : {w : Wrapper} → w ≡ get_or ws long.place w → is.wrapper ≡ wrapper_value w
+  found_wrapper {w} at =
+      same_Some is.wrapper (wrapper_value w)
+      (sym is.at ∙ ap (λ (vs : List WrapperValue). slice_get vs long.place) are ∙ slice_get-map wrapper_value ws long.place ∙ ap (option_map wrapper_value) (slice_at ws long.place w wrapper_within at))
 
--- the cells of its chains
-pub mode_cells : (plan : PlanValue) (m : ModuleValue) (t : Test) (long : ModeWrapper) → t.tam ≡ true → (is : IsModeWrapper plan m t.scan long) → chains_of plan m t ≡ chain_cells m t.scan is.wrapper.chains
-mode_cells plan m t long tam is = rw (tam, is.first) refl
+module _ {plan : PlanValue} {m : ModuleValue} (t : Test) {long : ModeWrapper} (tam : t.tam ≡ true) (is : IsModeWrapper plan m t.scan long) where
+  -- the cells of its chains
+  pub mode_cells : chains_of plan m t ≡ chain_cells m t.scan is.wrapper.chains
+  mode_cells = rw (tam, is.first) refl
 
--- the chains of a test are those of its wrapper
-pub own_paths : (plan : PlanValue) (m : ModuleValue) (t : Test) (long : ModeWrapper) (w : Wrapper) (paths : List Path) → t.tam ≡ true → (is : IsModeWrapper plan m t.scan long) → is.wrapper ≡ wrapper_value w →
-    ArePaths (m.inputs + m.bidirs) (scan_lengths m w.scan) (chain_cells m w.scan (map chain_value w.chains.items)) (length w.chains.items) paths → ArePaths (m.inputs + m.bidirs) (scan_lengths m t.scan) (chains_of plan m t) (length (chains_of plan m t)) paths
-own_paths plan m t long w paths tam is same made =
-    let mode : w.scan ≡ t.scan = ap (λ (v : WrapperValue). v.scan) (sym same) ∙ is.mode in
-    let cells : chain_cells m w.scan (map chain_value w.chains.items) ≡ chains_of plan m t =
-    ap (λ (v : WrapperValue). chain_cells m v.scan v.chains) (sym same) ∙ ap (λ scan. chain_cells m scan is.wrapper.chains) is.mode ∙ sym (mode_cells plan m t long tam is) in
-    let many : length w.chains.items ≡ length (chains_of plan m t) = sym (length-map w.chains.items chain_value) ∙ sym (length-dealt (scan_lengths m w.scan) 0 0 (map chain_value w.chains.items)) ∙ ap length cells in
-    record {
-      long = made.long ∙ many;
-      each = λ j p at. subst (λ (v : List (List Cell)). IsPath (m.inputs + m.bidirs) (scan_lengths m t.scan) (get_or v j []) p) cells (subst (λ scan. IsPath (m.inputs + m.bidirs) (scan_lengths m scan) (get_or (chain_cells m w.scan (map chain_value w.chains.items)) j []) p) mode (made.each j p at));
-    }
+  -- the chains of a test are those of its wrapper
+  pub own_paths : (w : Wrapper) {paths : List Path} → is.wrapper ≡ wrapper_value w →
+      ArePaths (m.inputs + m.bidirs) (scan_lengths m w.scan) (chain_cells m w.scan (map chain_value w.chains.items)) (length w.chains.items) paths →
+      ArePaths (m.inputs + m.bidirs) (scan_lengths m t.scan) (chains_of plan m t) (length (chains_of plan m t)) paths
+  own_paths w same made =
+      let mode : w.scan ≡ t.scan = ap (λ (v : WrapperValue). v.scan) (sym same) ∙ is.mode in
+      let cells : chain_cells m w.scan (map chain_value w.chains.items) ≡ chains_of plan m t =
+      ap (λ (v : WrapperValue). chain_cells m v.scan v.chains) (sym same) ∙ ap (λ scan. chain_cells m scan is.wrapper.chains) is.mode ∙ sym mode_cells in
+      let many : length w.chains.items ≡ length (chains_of plan m t) = sym (length-map w.chains.items chain_value) ∙ sym (length-dealt (scan_lengths m w.scan) 0 0 (map chain_value w.chains.items)) ∙ ap length cells in
+      record {
+        long = made.long ∙ many;
+        each = λ j p at. subst (λ (v : List (List Cell)). IsPath (m.inputs + m.bidirs) (scan_lengths m t.scan) (get_or v j []) p) cells
+            (subst (λ scan. IsPath (m.inputs + m.bidirs) (scan_lengths m scan) (get_or (chain_cells m w.scan (map chain_value w.chains.items)) j []) p) mode (made.each j p at));
+      }
 
 -- the chains of a layout are those of its wrapper
-pub layout_paths : (n : ℕ) (lengths : List ℕ) (ws : List ChainPlan) (layout : Layout) (paths : List Path) → layout.lengths.items ≡ lengths → map chain_value layout.chains.items ≡ map chain_value ws → ArePaths n layout.lengths.items (layout_cells layout) (length layout.chains.items) paths → ArePaths n lengths (dealt lengths 0 0 (map chain_value ws)) (length ws) paths
-layout_paths n lengths ws layout paths same chains made = record {
+pub layout_paths : {n : ℕ} {lengths : List ℕ} (ws : List ChainPlan) (layout : Layout) {paths : List Path} → layout.lengths.items ≡ lengths →
+    map chain_value layout.chains.items ≡ map chain_value ws →
+    ArePaths n layout.lengths.items (layout_cells layout) (length layout.chains.items) paths →
+    ArePaths n lengths (dealt lengths 0 0 (map chain_value ws)) (length ws) paths
+layout_paths {n} {lengths} ws layout same chains made = record {
   long = made.long ∙ sym (length-map layout.chains.items chain_value) ∙ ap (λ (cs : List ChainValue). length cs) chains ∙ length-map ws chain_value;
   each = λ j p at.
       subst (λ (cs : List ChainValue). IsPath n lengths (get_or (dealt lengths 0 0 cs) j []) p) chains (subst (λ (ls : List ℕ). IsPath n ls (get_or (dealt ls 0 0 (map chain_value layout.chains.items)) j []) p) same (made.each j p at));
 }
 
 -- the chains of a layout take as many terminals as the module has
-pub terminals : (m : ModuleValue) (scan : Bool) (cs : List ChainValue) (chains : List ChainPlan) → IsProper m scan cs → map chain_value chains ≡ cs → (sum_by (λ (c : ChainPlan). c.ins) chains ≡ m.inputs + m.bidirs) × (sum_by (λ (c : ChainPlan). c.outs) chains ≡ m.outputs + m.bidirs)
-terminals m scan cs chains proper are =
-    let counted : IsCounted m scan chains = proper_is_counted m scan chains (subst (IsProper m scan) (sym are) proper) in
+pub terminals : {m : ModuleValue} {scan : Bool} {cs : List ChainValue} (chains : List ChainPlan) → IsProper m scan cs → map chain_value chains ≡ cs →
+    (sum_by (λ (c : ChainPlan). c.ins) chains ≡ m.inputs + m.bidirs) × (sum_by (λ (c : ChainPlan). c.outs) chains ≡ m.outputs + m.bidirs)
+terminals {m} {scan} chains proper are =
+    let counted = proper_is_counted m scan chains (subst (IsProper m scan) (sym are) proper) in
     (counted.ins, counted.outs)
 
 -- ---- the lane of a planned test
 
--- a test over the wires of a bus
-pub over_wires : (plan : PlanValue) (p : ℕ) (m : ModuleValue) (t : Test) (placed : PlacedTest) (over : ℕ) → placed ≡ placed_of (planned_test plan p m t) → placed.bus ≡ Some over → (t.tam ≡ true) × (over ≡ bus_place m.number 0 plan.buses)
-over_wires plan p m t placed over same on =
-    let u = planned_test plan p m t in
-    let o = over_some u.tam u.bus over (ap (λ (q : PlacedTest). q.bus) (sym same) ∙ on) in
-    let is : PlannedIs plan p m t u = planned_is plan p m t in
-    (sym is.tam ∙ o.0, sym o.1 ∙ is.bus)
+module _ (p : ℕ) (m : ModuleValue) (t : Test) where
+  -- a test over the wires of a bus
+  pub over_wires : (plan : PlanValue) {placed : PlacedTest} {over : ℕ} → placed ≡ placed_of (planned_test plan p m t) → placed.bus ≡ Some over →
+      (t.tam ≡ true) × (over ≡ bus_place m.number 0 plan.buses)
+  over_wires plan same on =
+      let u = planned_test plan p m t in
+      let o = over_some u.tam u.bus (ap (λ (q : PlacedTest). q.bus) (sym same) ∙ on) in
+      let is = planned_is plan p m t in
+      (sym is.tam ∙ o.0, sym o.1 ∙ is.bus)
 
--- a live test is one of the chip's, and is planned
-live_there : (soc : SocValue) (p q : ℕ) (m : ModuleValue) (t : Test) → slice_get soc.modules p ≡ Some m → slice_get m.tests q ≡ Some t → is_live t ≡ true → (i : ℕ) × (slice_get (live_tests soc) i ≡ Some (the_live p m t))
-live_there soc p q m t at there live =
-    let n = in_filter is_live m.tests q t there live in
-    let i = in_live soc.modules 0 p n.0 p m t (omega arith) at n.1 in
-    (i.0, i.1)
+  -- a live test is one of the chip's, and is planned
+  live_there : (soc : SocValue) (q : ℕ) → slice_get soc.modules p ≡ Some m → slice_get m.tests q ≡ Some t → is_live t ≡ true →
+      (i : ℕ) × (slice_get (live_tests soc) i ≡ Some (the_live p m t))
+  live_there soc q at there live =
+      let n = in_filter is_live m.tests q t there live in
+      let i = in_live soc.modules 0 p n.0 p m t (omega arith) at n.1 in
+      (i.0, i.1)
 
-planned_there : (soc : SocValue) (plan : PlanValue) (p : ℕ) (m : ModuleValue) (t : Test) (i : ℕ) → slice_get (live_tests soc) i ≡ Some (the_live p m t) → IsAt (planned soc plan) i (planned_test plan p m t)
-unfolding planned
-planned_there soc plan p m t i at =
-    slice_get-map (λ (l : LiveTest). planned_test plan l.place l.core l.test) (live_tests soc) i ∙ ap (option_map (λ (l : LiveTest). planned_test plan l.place l.core l.test)) at
+  planned_there : (soc : SocValue) (plan : PlanValue) (i : ℕ) → slice_get (live_tests soc) i ≡ Some (the_live p m t) →
+      IsAt (planned soc plan) i (planned_test plan p m t)
+  unfolding planned
+  planned_there soc plan i here =
+      slice_get-map (λ (l : LiveTest). planned_test plan l.place l.core l.test) (live_tests soc) i ∙ ap (option_map (λ (l : LiveTest). planned_test plan l.place l.core l.test)) here
 
-pub self_placed : (keys : Keys) (soc : SocValue) (plan : PlanValue) (p q : ℕ) (m : ModuleValue) (t : Test) (placed : PlacedTest) (l : Lane) → slice_get soc.modules p ≡ Some m → slice_get m.tests q ≡ Some t → is_live t ≡ true → placed ≡ placed_of (planned_test plan p m t) → placed.bus ≡ None → IsSelfLane placed l →
-    IsPlacedLane keys soc plan (planned_test plan p m t) l
-self_placed keys soc plan p q m t placed l at there live same none lane =
-    let i = live_there soc p q m t at there live in
-    self_new keys soc plan i.0 (the_live p m t) (planned_test plan p m t) placed l i.1 refl (planned_is plan p m t) same none lane
+module _ (soc : SocValue) (plan : PlanValue) (p q : ℕ) {m : ModuleValue} {t : Test} (at : slice_get soc.modules p ≡ Some m)
+    (there : slice_get m.tests q ≡ Some t) (live : is_live t ≡ true) where
+  module _ (keys : Keys) {placed : PlacedTest} (l : Lane) (same : placed ≡ placed_of (planned_test plan p m t)) where
+    pub self_placed : placed.bus ≡ None → IsSelfLane placed l → IsPlacedLane keys soc plan (planned_test plan p m t) l
+    self_placed none lane =
+        let i = live_there p m t soc q at there live in
+        self_new keys soc i.0 i.1 refl (planned_is plan p m t) same none lane
 
-pub wired_placed : (keys : Keys) (soc : SocValue) (sound : IsSoundChip soc) (limits : LimitsValue) (plan : PlanValue) → IsGood soc limits plan → (p q : ℕ) (m : ModuleValue) (t : Test) (placed : PlacedTest) (over : ℕ) (l : Lane) → slice_get soc.modules p ≡ Some m → slice_get m.tests q ≡ Some t → is_live t ≡ true → placed ≡ placed_of (planned_test plan p m t) → placed.bus ≡ Some over
-    → IsWiredLane keys plan p over q placed m t l → IsPlacedLane keys soc plan (planned_test plan p m t) l
-wired_placed keys soc sound limits plan good p q m t placed over l at there live same on lane =
-    wired_new keys soc sound plan p q i.0 m t (planned_test plan p m t) placed over l at there live i.1 short refl is same on lane
-  where
-    is : PlannedIs plan p m t (planned_test plan p m t)
-    is = planned_is plan p m t
+    pub wired_placed : (sound : IsSoundChip soc) (limits : LimitsValue) → IsGood soc limits plan → {over : ℕ} → placed.bus ≡ Some over →
+        IsWiredLane keys plan p over q placed m t l → IsPlacedLane keys soc plan (planned_test plan p m t) l
+    wired_placed sound limits good on lane =
+        wired_new sound i.0 at there live i.1 short refl is same on lane
+      where
+        is : PlannedIs plan p m t (planned_test plan p m t)
+        is = planned_is plan p m t
 
-    i : (i : ℕ) × (slice_get (live_tests soc) i ≡ Some (the_live p m t))
-    i = live_there soc p q m t at there live
+        i : (i : ℕ) × (slice_get (live_tests soc) i ≡ Some (the_live p m t))
+        i = live_there p m t soc q at there live
 
-    short : length (operations_of m t (chains_of plan m t)) ≤ 10 ^ 18
-    short = omega (arith, ap length is.operations, short_planned soc limits plan i.0 (planned_test plan p m t) sound.size good (planned_there soc plan p m t i.0 i.1))
+        short : length (operations_of m t (chains_of plan m t)) ≤ 10 ^ 18
+        short = omega (arith, ap length is.operations, short_planned soc limits plan i.0 (planned_test plan p m t) sound.size good (planned_there p m t soc plan i.0 i.1))
 
--- the bus of a test over the wires is one of the plan's
-pub bus_there : (soc : SocValue) (limits : LimitsValue) (plan : PlanValue) → IsGood soc limits plan → (p q : ℕ) (m : ModuleValue) (t : Test) → slice_get soc.modules p ≡ Some m → slice_get m.tests q ≡ Some t → is_live t ≡ true → t.tam ≡ true → bus_place m.number 0 plan.buses < length plan.buses
-bus_there soc limits plan good p q m t at there live tam =
-    let n = in_filter is_live m.tests q t there live in
-    let w : Wrapped plan m t = wrapped soc limits plan good p n.0 m t at n.1 tam in
-    let fits = ((good Wrappers).0 w.n w.w w.at) in
-    let some : 1 ≤ length (w.w).chains = fits.some_chain in
-    let on : length (w.w).chains ≤ slice_index (widths plan) (bus_place m.number 0 plan.buses) = rw w.module_is at fits.on_wires in
-    go (cases_lt (bus_place m.number 0 plan.buses) (length plan.buses)) some on
-  where
-    many : length (widths plan) ≡ length plan.buses
-    many = length-map plan.buses _
+  -- the bus of a test over the wires is one of the plan's
+  pub bus_there : (limits : LimitsValue) → IsGood soc limits plan → t.tam ≡ true → bus_place m.number 0 plan.buses < length plan.buses
+  bus_there limits good tam =
+      let n = in_filter is_live m.tests q t there live in
+      let w = wrapped soc limits plan good p n.0 m t at n.1 tam in
+      let fits = ((good Wrappers).0 w.n w.w w.at) in
+      let some = fits.some_chain in
+      let on : length (w.w).chains ≤ slice_index (widths plan) (bus_place m.number 0 plan.buses) = rw w.module_is at fits.on_wires in
+      go (cases_lt (bus_place m.number 0 plan.buses) (length plan.buses)) some on
+    where
+      many : length (widths plan) ≡ length plan.buses
+      many = length-map plan.buses _
 
-    go : {n : ℕ} → (bus_place m.number 0 plan.buses < length plan.buses) ⊎ (length plan.buses ≤ bus_place m.number 0 plan.buses) → 1 ≤ n → n ≤ slice_index (widths plan) (bus_place m.number 0 plan.buses) → bus_place m.number 0 plan.buses < length plan.buses
-    go (inl less) some on = less
-    go (inr past) some on = let none : get_or (widths plan) (bus_place m.number 0 plan.buses) 0 ≡ 0 = get_or_past (widths plan) (bus_place m.number 0 plan.buses) 0 (omega (arith, many)) in absurd (omega arith)
+      go : {n : ℕ} → (bus_place m.number 0 plan.buses < length plan.buses) ⊎ (length plan.buses ≤ bus_place m.number 0 plan.buses) → 1 ≤ n → n ≤ slice_index (widths plan) (bus_place m.number 0 plan.buses) →
+          bus_place m.number 0 plan.buses < length plan.buses
+      go (inl less) some on = less
+      go (inr past) some on = let none = get_or_past (widths plan) (bus_place m.number 0 plan.buses) 0 (omega (arith, many)) in absurd (omega arith)
 
-pub width_is : (buses : List Bus) (bus : ℕ) (b : Bus) → b ≡ get_or buses bus b → bus < length buses → b.width ≡ slice_index (map (λ (b : BusValue). b.width) (map bus_value buses)) bus
-width_is buses bus b at within = ap (λ (b : Bus). b.width) at ∙ sym (get_or-map (λ (b : Bus). b.width) buses bus b 0 within) ∙ rw (widths_are buses) refl
+pub width_is : (buses : List Bus) (bus : ℕ) {b : Bus} → b ≡ get_or buses bus b → bus < length buses →
+    b.width ≡ slice_index (map (λ (b : BusValue). b.width) (map bus_value buses)) bus
+width_is buses bus {b} at within = ap (λ (b : Bus). b.width) at ∙ sym (get_or-map (λ (b : Bus). b.width) buses bus b 0 within) ∙ rw (widths_are buses) refl
 
 -- ---- lanes with contents
 
--- the name of the test of a lane
-pub placed_id : (keys : Keys) (soc : SocValue) (plan : PlanValue) (t : PlannedTest) (l : Lane) → (is : IsPlacedLane keys soc plan t l) → t.id ≡ id_of is.live
-placed_id keys soc plan t l is = (subst (PlannedIs plan is.live.place is.live.core is.live.test) (sym is.planned) (planned_is plan is.live.place is.live.core is.live.test)).id
+module _ {keys : Keys} {soc : SocValue} {plan : PlanValue} {t : PlannedTest} {l : Lane} (is : IsPlacedLane keys soc plan t l) where
+  -- the name of the test of a lane
+  pub placed_id : t.id ≡ id_of is.live
+  placed_id = (subst (PlannedIs plan is.live.place is.live.core is.live.test) (sym is.planned) (planned_is plan is.live.place is.live.core is.live.test)).id
 
--- what a lane is filled with by contents that stand for the tests of the chip
-filled : (keys : Keys) (drive : ℕ → ℕ → ℕ → Bool) (mark : ℕ → ℕ → ℕ → ℕ) (soc : SocValue) (plan : PlanValue) (content : Content) (marks : Marks) (t : PlannedTest) (l : Lane) → StandFor keys drive mark soc content marks → (is : IsPlacedLane keys soc plan t l) → PlannedIs plan is.live.place is.live.core is.live.test t → IsFilled drive mark content marks t l
-filled keys drive mark soc plan content marks t l stand is planned = record {
-  inputs = inputs_of is.live;
-  lengths = lengths_of is.live;
-  fitted = is.fitted;
-  stimulus = λ tam. rw (planned.id, is.key tam) (fun_ext (λ k. fun_ext (λ x. stand.stimulus is.place is.live is.there (sym planned.tam ∙ tam) k x)));
-  answers = λ tam. rw (planned.id, is.key tam) (fun_ext (λ k. fun_ext (λ x. stand.answers is.place is.live is.there (sym planned.tam ∙ tam) k x)));
-}
+  module _ {drive : ℕ → ℕ → ℕ → Bool} {mark : ℕ → ℕ → ℕ → ℕ} {content : Content} {marks : Marks} (stand : StandFor keys drive mark soc content marks) where
+    -- what a lane is filled with by contents that stand for the tests of the chip
+    filled : PlannedIs plan is.live.place is.live.core is.live.test t → IsFilled drive mark content marks t l
+    filled planned = record {
+      inputs = inputs_of is.live;
+      lengths = lengths_of is.live;
+      fitted = is.fitted;
+      stimulus = λ tam. rw (planned.id, is.key tam) (fun_ext (λ k. fun_ext (λ x. stand.stimulus is.place is.live is.there (sym planned.tam ∙ tam) k x)));
+      answers = λ tam. rw (planned.id, is.key tam) (fun_ext (λ k. fun_ext (λ x. stand.answers is.place is.live is.there (sym planned.tam ∙ tam) k x)));
+    }
 
-pub filled_lane : (keys : Keys) (drive : ℕ → ℕ → ℕ → Bool) (mark : ℕ → ℕ → ℕ → ℕ) (soc : SocValue) (plan : PlanValue) (content : Content) (marks : Marks) (t : PlannedTest) (l : Lane) → StandFor keys drive mark soc content marks → IsPlacedLane keys soc plan t l → IsFilled drive mark content marks t l
-filled_lane keys drive mark soc plan content marks t l stand is =
-    filled keys drive mark soc plan content marks t l stand is (subst (PlannedIs plan is.live.place is.live.core is.live.test) (sym is.planned) (planned_is plan is.live.place is.live.core is.live.test))
+    pub filled_lane : IsFilled drive mark content marks t l
+    filled_lane =
+        filled (subst (PlannedIs plan is.live.place is.live.core is.live.test) (sym is.planned) (planned_is plan is.live.place is.live.core is.live.test))
 
--- its test is known by its key
-pub keyed_lane : (keys : Keys) (soc : SocValue) (plan : PlanValue) (t : PlannedTest) (l : Lane) → IsPlacedLane keys soc plan t l → IsKeyed keys t l
-keyed_lane keys soc plan t l is = record {
-  inputs = inputs_of is.live;
-  lengths = lengths_of is.live;
-  fitted = is.fitted;
-  key = λ tam. record { place = is.live.place; at = test_place is.live; id = id_of is.live; is = is.key (sym is.fitted.tam ∙ tam) };
-}
+  -- its test is known by its key
+  pub keyed_lane : IsKeyed keys t l
+  keyed_lane = record {
+    inputs = inputs_of is.live;
+    lengths = lengths_of is.live;
+    fitted = is.fitted;
+    key = λ tam. record { place = is.live.place; at = test_place is.live; id = id_of is.live; is = is.key (sym is.fitted.tam ∙ tam) };
+  }

@@ -1,7 +1,6 @@
 -- How the bits of a response are numbered.
-use Rattle.std.proofs.Common.{◌≡◌, ℕ, zero, suc, ◌+◌, ◌<◌, Bool, true, false, cond, Some, List, [], ◌∷◌, ◌++◌, length, get_or, map, take, refl, ap, ◌∙◌, sym, arith, option_map}
-use Rattle.std.specs.Prelude.{slice_index, slice_get}
-use Rattle.std.specs.List.{flat_map, range_with_len, sum, sum_by, filter}
+use Rattle.std.proofs.Common.{◌≡◌, ℕ, zero, suc, ◌+◌, Bool, true, false, cond, Some, List, [], ◌∷◌, ◌++◌, length, get_or, map, take, refl, ap, ◌∙◌, sym, arith, option_map, slice_index, slice_get, flat_map, sum, sum_by, filter}
+use Rattle.std.specs.List.{range_with_len}
 use Rattle.std.proofs.lemmas.List.{map-append, append_assoc, length_push, get_or_at, take_at}
 use Rattle.std.proofs.lemmas.List.FromFn.{length-range_with_len, get_or-range_with_len}
 use Rattle.std.proofs.lemmas.List.Sums.{sum_by-cons, sum_by-append, length-filter}
@@ -40,8 +39,8 @@ filter_read [] read = refl
 filter_read (x ∷ xs) read = rw (read.0, filter_read xs read.1) refl
 
 read_joined : (xs ys : List Cell) → AreRead xs → AreRead ys → AreRead (xs ++ ys)
-read_joined [] ys a b = b
-read_joined (x ∷ xs) ys a b = (a.0, read_joined xs ys a.1 b)
+read_joined [] ys read b = b
+read_joined (x ∷ xs) ys read b = (read.0, read_joined xs ys read.1 b)
 
 pub read_flops : (lengths scans : List ℕ) → AreRead (flat_map (flops lengths) scans)
 read_flops lengths [] = tt
@@ -82,10 +81,10 @@ later_places front [] = refl
 later_places front (x ∷ rest) =
     let whole : List ℕ = front ++ (x ∷ rest) in
     let ih = rw (append_assoc front (x ∷ []) rest, length_push front x) at (later_places (front ++ (x ∷ [])) rest) in
-    let here : slice_index (front ++ (x ∷ rest)) (length front) ≡ x = get_or_at front x rest 0 (length front) refl in
-    let before : take (length front) (front ++ (x ∷ rest)) ≡ front = take_at front (x ∷ rest) (length front) refl in
+    let here = get_or_at front x rest 0 (length front) refl in
+    let before = take_at front (x ∷ rest) (length front) refl in
     let more : sum (front ++ (x ∷ [])) ≡ sum front + x = omega (arith, sum_by-append (λ n. n) front (x ∷ [])) in
-    let split : sum (x ∷ rest) ≡ x + sum rest = sum_by-cons (λ n. n) x rest in
+    let split = sum_by-cons (λ n. n) x rest in
     map-append (response_place (front ++ (x ∷ rest))) (flops (front ++ (x ∷ rest)) (length front)) (flat_map (flops (front ++ (x ∷ rest))) (range_with_len (length front + 1) (length rest)))
     ∙ rw (flop_places (front ++ (x ∷ rest)) (length front), before, here, ih, more, split) (joined_range (sum front) x (sum rest) (sum front + x) refl)
 
@@ -95,12 +94,12 @@ places m scan =
     ∙ map-append (response_place (scan_lengths m scan)) (flat_map (flops (scan_lengths m scan)) (range_with_len 0 (length (scan_lengths m scan)))) (out_cells 0 (m.outputs + m.bidirs))
     ∙ rw (later_places [] (scan_lengths m scan), out_places (scan_lengths m scan) (m.outputs + m.bidirs)) (joined_range 0 (sum (scan_lengths m scan)) (m.outputs + m.bidirs) (sum (scan_lengths m scan)) (omega arith))
 
-pub number_in_range : (n k x : ℕ) → slice_get (range_with_len 0 n) k ≡ Some x → x ≡ k
-number_in_range n k x at =
-    let within : k < length (range_with_len 0 n) = slice_get_within (range_with_len 0 n) k x at in
-    let long : length (range_with_len 0 n) ≡ n = length-range_with_len 0 n in
-    let number : get_or (range_with_len 0 n) k 0 ≡ 0 + k = get_or-range_with_len 0 n k 0 (omega arith) in
-    let there : slice_get (range_with_len 0 n) k ≡ Some (get_or (range_with_len 0 n) k 0) = slice_get-get_or (range_with_len 0 n) k 0 within in
+pub number_in_range : (n k : ℕ) {x : ℕ} → slice_get (range_with_len 0 n) k ≡ Some x → x ≡ k
+number_in_range n k {x} at =
+    let within = slice_get_within (range_with_len 0 n) k x at in
+    let long = length-range_with_len 0 n in
+    let number = get_or-range_with_len 0 n k 0 (omega arith) in
+    let there = slice_get-get_or (range_with_len 0 n) k 0 within in
     let same : x ≡ get_or (range_with_len 0 n) k 0 = cc in
     omega arith
 
@@ -108,4 +107,4 @@ pub response_number : (m : ModuleValue) (scan : Bool) (x : Cell) (n : ℕ) → I
 response_number m scan x n at =
     let seen : slice_get (map (response_place (scan_lengths m scan)) (response_cells m scan)) n ≡ Some (response_place (scan_lengths m scan) x) =
     slice_get-map (response_place (scan_lengths m scan)) (response_cells m scan) n ∙ ap (option_map (response_place (scan_lengths m scan))) at in
-    number_in_range (sum (scan_lengths m scan) + (m.outputs + m.bidirs)) n (response_place (scan_lengths m scan) x) (rw (places m scan) at seen)
+    number_in_range (sum (scan_lengths m scan) + (m.outputs + m.bidirs)) n (rw (places m scan) at seen)

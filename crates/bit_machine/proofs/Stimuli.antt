@@ -1,7 +1,6 @@
 -- How the bits of a stimulus are numbered.
-use Rattle.std.proofs.Common.{◌≡◌, ℕ, ◌+◌, Bool, true, false, cond, Some, List, [], ◌∷◌, ◌++◌, length, map, take, refl, ap, ◌∙◌, sym, arith, option_map, append-nil}
-use Rattle.std.specs.Prelude.{slice_get, slice_index}
-use Rattle.std.specs.List.{All, flat_map, range_with_len, sum, filter}
+use Rattle.std.proofs.Common.{◌≡◌, ℕ, ◌+◌, Bool, true, false, cond, Some, List, [], ◌∷◌, ◌++◌, length, map, take, refl, ap, ◌∙◌, sym, arith, option_map, append-nil, slice_get, slice_index, All, flat_map, sum, filter}
+use Rattle.std.specs.List.{range_with_len}
 use Rattle.std.proofs.lemmas.List.Elements.{All-head, All-tail}
 use Rattle.std.proofs.lemmas.Option.{slice_get-map}
 use Rattle.soc_model.specs.Chips.{ModuleValue}
@@ -43,17 +42,18 @@ moved : (inputs : ℕ) (lengths scans : List ℕ) → flat_map (flop_numbers inp
 moved inputs lengths [] = refl
 moved inputs lengths (c ∷ cs) =
     let start : inputs + (0 + sum (take c lengths)) ≡ inputs + sum (take c lengths) = omega arith in
-    rw (moved inputs lengths cs) (sym (map_append (λ k. inputs + k) (flop_numbers 0 lengths c) (flat_map (flop_numbers 0 lengths) cs) ∙ rw (added_range inputs (0 + sum (take c lengths)) (slice_index lengths c) (inputs + sum (take c lengths)) start) refl))
+    rw (moved inputs lengths cs) (sym (map_append (λ k. inputs + k) (flop_numbers 0 lengths c) (flat_map (flop_numbers 0 lengths) cs)
+    ∙ rw (added_range inputs (0 + sum (take c lengths)) (slice_index lengths c) (inputs + sum (take c lengths)) start) refl))
 
 places : (m : ModuleValue) (scan : Bool) → map (stimulus_place (m.inputs + m.bidirs) (scan_lengths m scan)) (stimulus_cells m scan) ≡ range_with_len 0 ((m.inputs + m.bidirs) + sum (scan_lengths m scan))
 places m scan =
     ap (map (stimulus_place (m.inputs + m.bidirs) (scan_lengths m scan))) (order m scan)
     ∙ map_append (stimulus_place (m.inputs + m.bidirs) (scan_lengths m scan)) (in_cells 0 (m.inputs + m.bidirs)) (flat_map (flops (scan_lengths m scan)) (range_with_len 0 (length (scan_lengths m scan))))
-    ∙ rw (ins_numbers (m.inputs + m.bidirs) (scan_lengths m scan) 0 (m.inputs + m.bidirs), behind) (joined_range 0 (m.inputs + m.bidirs) (sum (scan_lengths m scan)) (m.inputs + m.bidirs) (omega arith))
+    ∙ rw (ins_numbers (scan_lengths m scan) (m.inputs + m.bidirs) 0 (m.inputs + m.bidirs), behind) (joined_range 0 (m.inputs + m.bidirs) (sum (scan_lengths m scan)) (m.inputs + m.bidirs) (omega arith))
   where
     behind : map (stimulus_place (m.inputs + m.bidirs) (scan_lengths m scan)) (flat_map (flops (scan_lengths m scan)) (range_with_len 0 (length (scan_lengths m scan)))) ≡ range_with_len (m.inputs + m.bidirs) (sum (scan_lengths m scan))
     behind =
-        flop_loads (m.inputs + m.bidirs) (scan_lengths m scan) (range_with_len 0 (length (scan_lengths m scan)))
+        flop_loads (scan_lengths m scan) (m.inputs + m.bidirs) (range_with_len 0 (length (scan_lengths m scan)))
         ∙ moved (m.inputs + m.bidirs) (scan_lengths m scan) (range_with_len 0 (length (scan_lengths m scan)))
         ∙ ap (map (λ k. (m.inputs + m.bidirs) + k)) (sym (flop_answers (scan_lengths m scan) (range_with_len 0 (length (scan_lengths m scan)))) ∙ later_places [] (scan_lengths m scan))
         ∙ added_range (m.inputs + m.bidirs) 0 (sum (scan_lengths m scan)) (m.inputs + m.bidirs) (omega arith)
@@ -62,4 +62,4 @@ pub stimulus_number : (m : ModuleValue) (scan : Bool) (x : Cell) (n : ℕ) → I
 stimulus_number m scan x n at =
     let seen : slice_get (map (stimulus_place (m.inputs + m.bidirs) (scan_lengths m scan)) (stimulus_cells m scan)) n ≡ Some (stimulus_place (m.inputs + m.bidirs) (scan_lengths m scan) x) =
     slice_get-map (stimulus_place (m.inputs + m.bidirs) (scan_lengths m scan)) (stimulus_cells m scan) n ∙ ap (option_map (stimulus_place (m.inputs + m.bidirs) (scan_lengths m scan))) at in
-    number_in_range ((m.inputs + m.bidirs) + sum (scan_lengths m scan)) n (stimulus_place (m.inputs + m.bidirs) (scan_lengths m scan) x) (rw (places m scan) at seen)
+    number_in_range ((m.inputs + m.bidirs) + sum (scan_lengths m scan)) n (rw (places m scan) at seen)

@@ -1,19 +1,18 @@
 -- The user of a wire, and what it carries, shows and answers.
-use Rattle.std.proofs.Common.{◌≡◌, ℕ, suc, ◌+◌, ◌-◌, ◌≤◌, ◌<◌, ◌⊎◌, Bool, true, false, Option, Some, None, List, [], ◌∷◌, length, get_or, drop, reverse, refl, ap, sym, subst, ◌∙◌, arith, inl, inr, zero-add}
-use Rattle.std.specs.Prelude.{slice_get}
+use Rattle.std.proofs.Common.{◌≡◌, ℕ, suc, ◌+◌, ◌-◌, ◌≤◌, ◌<◌, Bool, true, false, Option, Some, None, List, [], ◌∷◌, length, get_or, drop, reverse, refl, ap, sym, ◌∙◌, arith, inl, inr, zero-add, slice_get}
 use Rattle.std.proofs.lemmas.List.{get_or-map, get_or_past, get_or-reverse, length-reverse}
 use Rattle.std.proofs.lemmas.List.Sums.{count_by-le-length}
 use Rattle.std.proofs.lemmas.Option.{slice_get-get_or, get_or_from_slice_get, slice_get_within, same_Some}
 use Rattle.std.proofs.lemmas.Bool.{cases_lt, false_from_ne_true, lt-ltb, ltb-true}
 use Rattle.plan_model.specs.Cells.{Cell, In, is_read, out_length}
-use Rattle.plan_model.specs.Operations.{Operation, Capture}
-use Rattle.plan_model.specs.Plans.{PlannedTest, uses, IsActive, end_of}
+use Rattle.plan_model.specs.Operations.{Capture}
+use Rattle.plan_model.specs.Plans.{PlannedTest, uses, IsActive}
 use Rattle.plan_model.specs.Runs.{Content, wanted, last_bit, chain_at, bits_at, at_first_user, carried, shown}
 use Rattle.plan_model.specs.OneTest.{from_end}
 use Rattle.plan_model.specs.Right.{IsAt, IsReadAt}
 use Rattle.plan_model.proofs.ChainsInTheRun.{at_first_user_is}
 use Rattle.plan_model.proofs.LoadsAndReads.{begun_at, at_start_plus, chain_is}
-use Rattle.plan_model.proofs.TestsInGoodPlans.{Uses, uses_is}
+use Rattle.plan_model.proofs.TestsInGoodPlans.{uses_is}
 use Rattle.bit_machine.specs.Chips.{IsCompared}
 use Rattle.bit_machine.specs.Paths.{is_answered}
 use Rattle.plan_model.specs.Moments.{phase_ops, moment_behind, IsMoment}
@@ -24,114 +23,116 @@ use Rattle.bit_machine.proofs.Assigning.{from_uses}
 use Rattle.bit_machine.specs.declared.lane.Lane.{Lane}
 use Rattle.bit_machine.specs.declared.stepped.SteppedLane.{SteppedLane}
 use Rattle.bit_machine.specs.declared.machine.Machine.{Machine}
+use Rattle.common_lemmas.proofs.Options.{none_some}
 
 -- a wire without a user
 pub nobody : (f : ℕ → PlannedTest → ℕ → Bool) (c x n : ℕ) (tests : List PlannedTest) → ((i : ℕ) (t : PlannedTest) → IsAt tests i t → uses c x t ≡ true → ⊥) → at_first_user f c x n tests ≡ false
 nobody f c x n [] none = refl
 nobody f c x n (t ∷ tests) none =
-    let other : uses c x t ≡ false = false_from_ne_true (uses c x t) (λ e. none 0 t refl e) in
+    let other = false_from_ne_true (uses c x t) (λ e. none 0 t refl e) in
     rw other (nobody f c x (n + 1) tests (λ i u at e. none (suc i) u at e))
 
-pub user_place : (content : Content) (tests : List PlannedTest) (m : Machine) (is : IsMachine content tests m) (w i : ℕ) → slice_get m.users.items w ≡ Some (Some i) → i < length m.lanes.items
-user_place content tests m is w i there =
+pub user_place : {content : Content} {tests : List PlannedTest} {m : Machine} (is : IsMachine content tests m) (w : ℕ) {i : ℕ} →
+    slice_get m.users.items w ≡ Some (Some i) → i < length m.lanes.items
+user_place {tests} is w {i} there =
     let u = is.users.user w i there in
-    let long : length m.lanes.items ≡ length tests = is.lanes.long in
-    let within : i < length tests = slice_get_within tests i u.0 u.1 in
+    let within = slice_get_within tests i u.0 u.1 in
     omega arith
 
-pub busy_of : (content : Content) (t : PlannedTest) (l : Lane) (c : ℕ) → IsWired content t l → l.start ≡ t.start → IsActive t c → IsBusy l c
-busy_of content t l c w start active =
-    let begun : t.start ≤ c = active.0 in
-    let going : c < end_of t = active.1 in
+pub busy_of : {content : Content} {t : PlannedTest} {l : Lane} (c : ℕ) → IsWired content t l → l.start ≡ t.start → IsActive t c → IsBusy l c
+busy_of {t} {l} c w start active =
+    let begun = active.0 in
+    let going = active.1 in
     let long : length t.operations ≡ length (phase_ops l.phases) = ap length w.operations in
     record { begun = omega arith; going = omega arith }
 
-pub user_lane : (content : Content) (tests : List PlannedTest) (m : Machine) (is : IsMachine content tests m) (w i : ℕ) (l : SteppedLane) → slice_get m.users.items w ≡ Some (Some i) → slice_get m.lanes.items i ≡ Some l → IsUser content tests m w i l
-user_lane content tests m is w i l there at =
-    let u = is.users.user w i there in
-    let x : Uses m.cycle w u.0 = uses_is m.cycle w u.0 u.2 in
-    let lane : IsLane content u.0 l.lane = is.lanes.lane i u.0 l u.1 at in
-    let wired : IsWired content u.0 l.lane = lane.wired x.tam in
-    record { t = u.0; at = u.1; lane_at = at; tam = x.tam; used = u.2; lane = lane; steppable = is.lanes.steppable i l at; first = wired.first_wire; begun = x.active.0; now = is.now i l at (from_uses content u.0 l.lane m.cycle w lane u.2).on }
+module _ {m : Machine} (w : ℕ) {i : ℕ} {l : SteppedLane} (there : slice_get m.users.items w ≡ Some (Some i)) (at : slice_get m.lanes.items i ≡ Some l) where
+  pub user_lane : {content : Content} {tests : List PlannedTest} (is : IsMachine content tests m) → IsUser content tests m w i l
+  user_lane is =
+      let u = is.users.user w i there in
+      let x = uses_is m.cycle w u.0 u.2 in
+      let lane = is.lanes.lane i u.0 l u.1 at in
+      let wired = lane.wired x.tam in
+      record { t = u.0; at = u.1; lane_at = at; tam = x.tam; used = u.2; lane = lane; steppable = is.lanes.steppable i l at; first = wired.first_wire; begun = x.active.0; now = is.now i l at (from_uses m.cycle w lane u.2).on }
 
-pub has_wire : (m : Machine) (s : IsSomeMachine m) (w i : ℕ) (l : SteppedLane) → slice_get m.users.items w ≡ Some (Some i) → slice_get m.lanes.items i ≡ Some l → HasWire m w l
-has_wire m s w i l there at =
-    let u : IsUser s.content s.tests m w i l = user_lane s.content s.tests m s.is w i l there at in
-    let x : Uses m.cycle w u.t = uses_is m.cycle w u.t u.used in
-    let low : u.t.first_wire ≤ w = x.low in
-    let first : l.lane.first_wire ≡ u.t.first_wire = u.first in
-    record {
-      steppable = u.steppable;
-      low = omega arith;
-      user = λ content tests is. (i, user_lane content tests m is w i l there at);
-    }
+  pub has_wire : (s : IsSomeMachine m) → HasWire m w l
+  has_wire s =
+      let u = user_lane s.is in
+      let x = uses_is m.cycle w u.t u.used in
+      let low = x.low in
+      record {
+        steppable = u.steppable;
+        low = omega arith;
+        user = λ content tests is. (i, user_lane is);
+      }
 
--- what a wire with a user carries and shows
-first_user : (f : ℕ → PlannedTest → ℕ → Bool) (content : Content) (tests : List PlannedTest) (m : Machine) (is : IsMachine content tests m) (w i : ℕ) (l : SteppedLane) (u : IsUser content tests m w i l) →
-    at_first_user f m.cycle w 0 tests ≡ f i u.t (w - l.lane.first_wire)
-first_user f content tests m is w i l u =
-    at_first_user_is f m.cycle w 0 tests i u.t u.at u.used (λ i' t' at' used'. is.wires.alone m.cycle w i i' u.t t' u.at at' u.used used') ∙ rw (zero-add i, u.first) refl
+module _ {content : Content} {tests : List PlannedTest} {m : Machine} (is : IsMachine content tests m) {w : ℕ} {l : SteppedLane} where
+  -- what a wire with a user carries and shows
+  first_user : (f : ℕ → PlannedTest → ℕ → Bool) {i : ℕ} (u : IsUser content tests m w i l) →
+      at_first_user f m.cycle w 0 tests ≡ f i u.t (w - l.lane.first_wire)
+  first_user f {i} u =
+      at_first_user_is f m.cycle w 0 tests i u.t u.at u.used (λ i' t' at' used'. is.wires.alone m.cycle w i i' u.t t' u.at at' u.used used') ∙ rw (zero-add i, u.first) refl
 
-pub carried_by : (content : Content) (tests : List PlannedTest) (m : Machine) (is : IsMachine content tests m) (w i : ℕ) (l : SteppedLane) (u : IsUser content tests m w i l) (b : Bool) →
-    b ≡ wanted (content.stimulus u.t.id) (chain_at u.t (w - l.lane.first_wire)) (drop (m.cycle - u.t.start) u.t.operations) → b ≡ carried content tests m.cycle w
-unfolding carried
-carried_by content tests m is w i l u b bit =
-    bit ∙ sym (first_user (λ i t j. wanted (content.stimulus t.id) (chain_at t j) (drop (m.cycle - t.start) t.operations)) content tests m is w i l u)
+  pub carried_by : {i : ℕ} (u : IsUser content tests m w i l) {b : Bool} →
+      b ≡ wanted (content.stimulus u.t.id) (chain_at u.t (w - l.lane.first_wire)) (drop (m.cycle - u.t.start) u.t.operations) →
+      b ≡ carried content tests m.cycle w
+  unfolding carried
+  carried_by {i} u bit =
+      bit ∙ sym (first_user (λ i t j. wanted (content.stimulus t.id) (chain_at t j) (drop (m.cycle - t.start) t.operations)) u)
 
-bits_in : (lanes : List SteppedLane) (i j : ℕ) (l : SteppedLane) → slice_get lanes i ≡ Some l → bits_at (lanes_state lanes) i j ≡ get_or (lane_bits l) j []
-bits_in lanes i j l at =
+bits_in : (lanes : List SteppedLane) (i j : ℕ) {l : SteppedLane} → slice_get lanes i ≡ Some l →
+    bits_at (lanes_state lanes) i j ≡ get_or (lane_bits l) j []
+bits_in lanes i j {l} at =
     ap (λ bits. get_or bits j []) (get_or-map lane_bits lanes i l [] (slice_get_within lanes i l at) ∙ ap lane_bits (get_or_from_slice_get lanes i l l at))
 
-pub shown_by : (content : Content) (tests : List PlannedTest) (m : Machine) (is : IsMachine content tests m) (w i : ℕ) (l : SteppedLane) (u : IsUser content tests m w i l) (b : Bool) →
-    b ≡ last_bit (get_or (lane_bits l) (w - l.lane.first_wire) []) → b ≡ shown tests (lanes_state m.lanes.items) m.cycle w
-unfolding shown
-shown_by content tests m is w i l u b bit =
-    bit ∙ rw (← bits_in m.lanes.items i (w - l.lane.first_wire) l u.lane_at) (sym (first_user (λ i t j. last_bit (bits_at (lanes_state m.lanes.items) i j)) content tests m is w i l u))
+module _ {content : Content} {tests : List PlannedTest} {m : Machine} (is : IsMachine content tests m) (w : ℕ) where
+  pub shown_by : {i : ℕ} {l : SteppedLane} (u : IsUser content tests m w i l) {b : Bool} →
+      b ≡ last_bit (get_or (lane_bits l) (w - l.lane.first_wire) []) → b ≡ shown tests (lanes_state m.lanes.items) m.cycle w
+  unfolding shown
+  shown_by {i} {l} u bit =
+      bit ∙ rw (← bits_in m.lanes.items i (w - l.lane.first_wire) u.lane_at) (sym (first_user is (λ i t j. last_bit (bits_at (lanes_state m.lanes.items) i j)) u))
 
--- a wire without a user carries and shows 0
-pub no_user : (content : Content) (tests : List PlannedTest) (m : Machine) (is : IsMachine content tests m) (w : ℕ) → w < length m.users.items → slice_get m.users.items w ≡ Some None → (i : ℕ) (t : PlannedTest) → IsAt tests i t → uses m.cycle w t ≡ true → ⊥
-no_user content tests m is w h none i t at used = none_some (same_Some _ _ (sym none ∙ is.users.every w i t h at used)) where
-  none_some : {X : Type 0} {x : X} → None ≡ Some x → ⊥
-  none_some e = cc
+  -- a wire without a user carries and shows 0
+  pub no_user : w < length m.users.items → slice_get m.users.items w ≡ Some None → (i : ℕ) (t : PlannedTest) → IsAt tests i t →
+      uses m.cycle w t ≡ true → ⊥
+  no_user h none i t at used = none_some (same_Some _ _ (sym none ∙ is.users.every w i t h at used))
 
-pub carried_none : (content : Content) (tests : List PlannedTest) (m : Machine) (is : IsMachine content tests m) (w : ℕ) → HasNoUser m w → false ≡ carried content tests m.cycle w
-unfolding carried
-carried_none content tests m is w none =
-    sym (nobody (λ i t j. wanted (content.stimulus t.id) (chain_at t j) (drop (m.cycle - t.start) t.operations)) m.cycle w 0 tests (none content tests is))
+  pub carried_none : HasNoUser m w → false ≡ carried content tests m.cycle w
+  unfolding carried
+  carried_none none =
+      sym (nobody (λ i t j. wanted (content.stimulus t.id) (chain_at t j) (drop (m.cycle - t.start) t.operations)) m.cycle w 0 tests (none content tests is))
 
-pub shown_none : (content : Content) (tests : List PlannedTest) (m : Machine) (is : IsMachine content tests m) (w : ℕ) → HasNoUser m w → false ≡ shown tests (lanes_state m.lanes.items) m.cycle w
-unfolding shown
-shown_none content tests m is w none = sym (nobody (λ i t j. last_bit (bits_at (lanes_state m.lanes.items) i j)) m.cycle w 0 tests (none content tests is))
+  pub shown_none : HasNoUser m w → false ≡ shown tests (lanes_state m.lanes.items) m.cycle w
+  unfolding shown
+  shown_none none = sym (nobody (λ i t j. last_bit (bits_at (lanes_state m.lanes.items) i j)) m.cycle w 0 tests (none content tests is))
 
--- ---- the response bit that is read
+  -- ---- the response bit that is read
 
--- what is read is on a wire that the test uses, some Shifts behind its capture
-pub answer_read : (content : Content) (tests : List PlannedTest) (m : Machine) (is : IsMachine content tests m) (w i : ℕ) (l : SteppedLane) (u : IsUser content tests m w i l) (b : Bool) →
-    ((content : Content) (t : PlannedTest) → t.tam ≡ true → IsLane content t l.lane → b ≡ is_answered (chain_at t (w - l.lane.first_wire)) (moment_behind l.moment)) → (r : IsCompared tests m.cycle w) → b ≡ true
-answer_read content tests m is w i l u b answers r =
-    let used : uses m.cycle w r.test ≡ true = is.wires.reads r.place r.pattern m.cycle w r.test r.cell r.at r.read in
-    let place : r.place ≡ i = is.wires.alone m.cycle w i r.place u.t r.test u.at r.at u.used used in
-    let same : u.t ≡ r.test = same_Some _ _ (sym u.at ∙ subst (λ j. IsAt tests j r.test) place r.at) in
-    let lane : IsLane content r.test l.lane = subst (λ t. IsLane content t l.lane) same u.lane in
-    let x : Uses m.cycle w r.test = uses_is m.cycle w r.test used in
-    let first : l.lane.first_wire ≡ r.test.first_wire = u.first ∙ ap (λ (t : PlannedTest). t.first_wire) same in
-    reading content r.test l m.cycle w b x.tam lane u.now first (answers content r.test x.tam lane) r.pattern r.cell r.read
-  where
-    reading : (content : Content) (t : PlannedTest) (l : SteppedLane) (c w : ℕ) (b : Bool) → t.tam ≡ true → IsLane content t l.lane → IsNow l c → l.lane.first_wire ≡ t.first_wire → b ≡ is_answered (chain_at t (w - l.lane.first_wire)) (moment_behind l.moment) →
-        (k : ℕ) (x : Cell) → IsReadAt t k x c w → b ≡ true
-    reading content t l c w b tam lane now first a k x read =
-        let wired : IsWired content t l.lane = lane.wired tam in
-        let begun = begun_at t read.capture (Capture k) read.captures in
-        let early : t.start ≤ read.capture = begun.0 in
-        let cycle : c ≡ read.capture + 1 + read.shifts = read.cycle in
-        let start : l.lane.start ≡ t.start = lane.start in
-        let wire : w ≡ t.first_wire + read.chain = read.wire in
-        let chain : w - l.lane.first_wire ≡ read.chain = omega arith in
-        let cells : chain_at t read.chain ≡ read.cells = chain_is t read.chain read.cells read.there in
-        let out : out_length (chain_at t read.chain) ≤ l.lane.phases.so = wired.out_fits read.chain in
-        let within : read.shifts < out_length (chain_at t read.chain) = rw cells read.within in
-        let behind : moment_behind l.moment ≡ Some (read.shifts, k) = now.is.every read.shifts k (read.capture - t.start) (rw (← wired.operations) begun.1) (omega arith) (omega arith) in
-        a ∙ rw (chain, behind) (lt-ltb read.shifts (out_length (chain_at t read.chain)) within)
+  -- what is read is on a wire that the test uses, some Shifts behind its capture
+  pub answer_read : {i : ℕ} {l : SteppedLane} (u : IsUser content tests m w i l) (b : Bool) →
+      ((content : Content) (t : PlannedTest) → t.tam ≡ true → IsLane content t l.lane → b ≡ is_answered (chain_at t (w - l.lane.first_wire)) (moment_behind l.moment)) →
+      (r : IsCompared tests m.cycle w) → b ≡ true
+  answer_read {i} {l} u b answers r =
+      let used = is.wires.reads r.place r.pattern m.cycle w r.test r.cell r.at r.read in
+      let place = is.wires.alone m.cycle w i r.place u.t r.test u.at r.at u.used used in
+      let same = same_Some _ _ (sym u.at ∙ rw place at r.at) in
+      let lane : IsLane content r.test l.lane = rw same at u.lane in
+      let x = uses_is m.cycle w r.test used in
+      let first : l.lane.first_wire ≡ r.test.first_wire = u.first ∙ ap (λ (t : PlannedTest). t.first_wire) same in
+      reading content r.test l m.cycle w b x.tam lane u.now first (answers content r.test x.tam lane) r.pattern r.cell r.read
+    where
+      reading : (content : Content) (t : PlannedTest) (l : SteppedLane) (c w : ℕ) (b : Bool) → t.tam ≡ true → IsLane content t l.lane → IsNow l c → l.lane.first_wire ≡ t.first_wire →
+          b ≡ is_answered (chain_at t (w - l.lane.first_wire)) (moment_behind l.moment) →
+          (k : ℕ) (x : Cell) → IsReadAt t k x c w → b ≡ true
+      reading content t l c w b tam lane now first a k x read =
+          let wired = lane.wired tam in
+          let begun = begun_at t read.capture (Capture k) read.captures in
+          let chain : w - l.lane.first_wire ≡ read.chain = omega arith in
+          let cells = chain_is t read.chain read.cells read.there in
+          let out = wired.out_fits read.chain in
+          let within : read.shifts < out_length (chain_at t read.chain) = rw cells read.within in
+          let behind = now.is.every read.shifts k (read.capture - t.start) (rw (← wired.operations) begun.1) (omega arith) (omega arith) in
+          a ∙ rw (chain, behind) (lt-ltb read.shifts (out_length (chain_at t read.chain)) within)
 
 -- and what is found there is read
 pub from_answered : (cells : List Cell) (a : Option (ℕ × ℕ)) → is_answered cells a ≡ true → (s : ℕ) × (k : ℕ) × (a ≡ Some (s, k)) × (s < out_length cells)
@@ -140,11 +141,13 @@ from_answered cells (Some a) e = (a.0, a.1, refl, ltb-true a.0 (out_length cells
 
 pub at_end : (cells : List Cell) (s : ℕ) → s < out_length cells → slice_get (reverse cells) s ≡ Some (from_end cells s)
 at_end cells s h =
-    let few : out_length cells ≤ length cells = count_by-le-length is_read cells in
+    let few = count_by-le-length is_read cells in
     slice_get-get_or (reverse cells) s (In 0) (rw (length-reverse cells) (omega arith)) ∙ ap Some (get_or-reverse cells s (In 0) (omega arith))
 
-pub read_there : (t : PlannedTest) (l : Lane) (c n w j s k : ℕ) (m : Moment) → t.operations ≡ phase_ops l.phases → t.start ≤ c → c - t.start ≡ n → w ≡ t.first_wire + j → IsMoment l.phases n m → moment_behind m ≡ Some (s, k) → s < out_length (chain_at t j) → IsReadAt t k (from_end (chain_at t j) s) c w
-read_there t l c n w j s k m operations begun at wire now behind few =
+pub read_there : (t : PlannedTest) (l : Lane) (c : ℕ) {n : ℕ} (w j s k : ℕ) {m : Moment} → t.operations ≡ phase_ops l.phases → t.start ≤ c →
+    c - t.start ≡ n → w ≡ t.first_wire + j → IsMoment l.phases n m → moment_behind m ≡ Some (s, k) → s < out_length (chain_at t j) →
+    IsReadAt t k (from_end (chain_at t j) s) c w
+read_there t l c w j s k operations begun at wire now behind few =
     let q = now.behind s k behind in
     record {
       chain = j;
@@ -154,33 +157,34 @@ read_there t l c n w j s k m operations begun at wire now behind few =
       within = few;
       cell = at_end (chain_at t j) s few;
       capture = t.start + q.0;
-      captures = at_start_plus t q.0 (Capture k) (subst (λ (ops : List Operation). slice_get ops q.0 ≡ Some (Capture k)) (sym operations) q.1);
-      cycle = omega (arith, q.2, at, begun);
+      captures = at_start_plus t q.0 (Capture k) (rw (← operations) at q.1);
+      cycle = omega (arith, q.2);
       wire = wire;
     }
   where
     chain_there : (t : PlannedTest) (j s : ℕ) → s < out_length (chain_at t j) → slice_get t.chains j ≡ Some (chain_at t j)
-    chain_there t j s h = go (cases_lt j (length t.chains)) where
-      go : (j < length t.chains) ⊎ (length t.chains ≤ j) → slice_get t.chains j ≡ Some (chain_at t j)
-      go (inl less) = slice_get-get_or t.chains j [] less
-      go (inr past) =
-          let empty : chain_at t j ≡ [] = get_or_past t.chains j [] past in
+    chain_there t j s h = elim (cases_lt j (length t.chains)) [
+      | inl less ↦ slice_get-get_or t.chains j [] less
+      | inr past ↦
+          let empty = get_or_past t.chains j [] past in
           let h' = rw empty at h in
           absurd (omega arith)
+    ]
 
-pub answer_compared : (content : Content) (tests : List PlannedTest) (m : Machine) (w i : ℕ) (l : SteppedLane) (u : IsUser content tests m w i l) (b : Bool) → l.lane.first_wire ≤ w →
-    ((content : Content) (t : PlannedTest) → t.tam ≡ true → IsLane content t l.lane → b ≡ is_answered (chain_at t (w - l.lane.first_wire)) (moment_behind l.moment)) → b ≡ true → IsCompared tests m.cycle w
-answer_compared content tests m w i l u b low answers some =
+pub answer_compared : {content : Content} {tests : List PlannedTest} {m : Machine} {w i : ℕ} {l : SteppedLane} (u : IsUser content tests m w i l)
+    {b : Bool} → l.lane.first_wire ≤ w →
+    ((content : Content) (t : PlannedTest) → t.tam ≡ true → IsLane content t l.lane → b ≡ is_answered (chain_at t (w - l.lane.first_wire)) (moment_behind l.moment)) →
+    b ≡ true → IsCompared tests m.cycle w
+answer_compared {content} {m} {w} {i} {l} u low answers some =
     let f = from_answered (chain_at u.t (w - l.lane.first_wire)) (moment_behind l.moment) (sym (answers content u.t u.tam u.lane) ∙ some) in
-    let wired : IsWired content u.t l.lane = u.lane.wired u.tam in
-    let start : l.lane.start ≡ u.t.start = u.lane.start in
-    let first : l.lane.first_wire ≡ u.t.first_wire = u.first in
-    let begun : u.t.start ≤ m.cycle = u.begun in
+    let wired = u.lane.wired u.tam in
+    let start = u.lane.start in
+    let begun = u.begun in
     record {
       place = i;
       test = u.t;
       pattern = f.1;
       cell = from_end (chain_at u.t (w - l.lane.first_wire)) f.0;
       at = u.at;
-      read = read_there u.t l.lane m.cycle (m.cycle - l.lane.start) w (w - l.lane.first_wire) f.0 f.1 l.moment wired.operations begun (ap (λ n. m.cycle - n) (sym start)) (omega (arith, first, low)) u.now.is f.2 f.3;
+      read = read_there u.t l.lane m.cycle w (w - l.lane.first_wire) f.0 f.1 wired.operations begun (ap (λ n. m.cycle - n) (sym start)) (omega arith) u.now.is f.2 f.3;
     }

@@ -1,10 +1,8 @@
 -- The first item of a list that breaks a rule.
-use Rattle.std.proofs.Common.{get_or, ◌≡◌, ℕ, ◌+◌, ◌≤◌, ◌<◌, Some, None, List, length, take, arith, inl, inr, sym, ap, ◌∙◌, Option}
-use Rattle.std.specs.Prelude.{slice_get}
+use Rattle.std.proofs.Common.{get_or, ◌≡◌, ℕ, ◌+◌, ◌≤◌, ◌<◌, Some, None, List, length, take, arith, inl, inr, sym, ap, ◌∙◌, Option, slice_get}
 use Rattle.std.proofs.lemmas.Bool.{cases_lt}
-use Rattle.std.proofs.lemmas.Option.{slice_get_within}
+use Rattle.std.proofs.lemmas.Option.{slice_get_within, slice_get-get_or, get_or_from_slice_get}
 use Rattle.std.proofs.lemmas.List.{length-take, get_or-take, take-take}
-use Rattle.std.proofs.lemmas.Option.{slice_get-get_or, get_or_from_slice_get}
 use Rattle.plan_model.specs.Rules.{Each}
 use Rattle.bound_certificate.specs.Best.{up_to}
 use Rattle.bound_certificate.specs.Breaches.{IsBreachPlace}

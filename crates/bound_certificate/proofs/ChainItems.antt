@@ -1,8 +1,6 @@
 -- Tests of a list by their names, and precedences.
-use Rattle.std.proofs.Common.{◌≡◌, ℕ, suc, ◌-◌, ◌≤◌, ◌<◌, Bool, true, false, eqb, Option, Some, None, is_some, option_map, List, length, get_or, take, refl, ap, ◌∙◌, arith}
-use Rattle.std.specs.Prelude.{slice_get, IsTrue, MatchBool, ◌↔◌}
+use Rattle.std.proofs.Common.{◌≡◌, ℕ, suc, ◌-◌, ◌≤◌, ◌<◌, Bool, true, false, eqb, Option, Some, None, is_some, option_map, List, length, get_or, take, refl, ap, ◌∙◌, arith, slice_get, IsTrue, MatchBool, ◌↔◌, find, Contains}
 use Rattle.plan_model.specs.Bounds.{lower}
-use Rattle.std.specs.List.{find, Contains}
 use Rattle.std.proofs.lemmas.Option.{slice_get-map, slice_get-get_or, get_or_from_slice_get}
 use Rattle.soc_model.specs.declared.TestId.{TestId}
 use Rattle.soc_model.specs.Chips.{SocValue, LiveTest, live_tests, id_of}

@@ -1,6 +1,5 @@
 -- From a kept list and its value to what the check answers.
-use Rattle.std.proofs.Common.{◌≡◌, ℕ, ◌≤◌, ltb, Option, Some, None, is_some, option_map, Result, Ok, Err, List, refl, arith, inl, inr}
-use Rattle.std.specs.Prelude.{nat_lt, OnOk, IfErr, IsTrue, if◌then◌else◌}
+use Rattle.std.proofs.Common.{◌≡◌, ℕ, ◌≤◌, ltb, Option, Some, None, is_some, option_map, Result, Ok, Err, List, refl, arith, inl, inr, nat_lt, OnOk, IfErr, IsTrue, if◌then◌else◌}
 use Rattle.std.proofs.lemmas.Bool.{cases_Bool, ltb-true, ltb-false}
 use Rattle.soc_model.specs.Chips.{SocValue, parent_place}
 use Rattle.plan_model.specs.Plans.{LimitsValue, WhyValue, OfModule, OfPair, OfChain, OfArea, OfPower, OfForced, BoundValue}
@@ -27,32 +26,34 @@ family_some soc w place shown is = go (parent_place soc.modules place) is where
 
 -- ---- what the answer says of the certificate
 
-pub checked_accepts : (soc : SocValue) (limits : LimitsValue) (bound : BoundValue) (r : Result (Unit {0}) BoundFault) → IsCheck soc limits bound.cycles bound.why r → OnOk r (IsAccepted soc limits bound)
-checked_accepts soc limits bound (Ok u) check = record { keeps = check.keeps; enough = check.enough }
-checked_accepts soc limits bound (Err fault) check = tt
+module _ (soc : SocValue) (limits : LimitsValue) where
+  pub checked_accepts : (bound : BoundValue) (r : Result (Unit {0}) BoundFault) → IsCheck soc limits bound.cycles bound.why r → OnOk r (IsAccepted soc limits bound)
+  checked_accepts bound (Ok u) check = record { keeps = check.keeps; enough = check.enough }
+  checked_accepts bound (Err fault) check = tt
 
-pub checked_faults : (soc : SocValue) (limits : LimitsValue) (bound : BoundValue) (r : Result (Unit {0}) BoundFault) → IsCheck soc limits bound.cycles bound.why r → IfErr r (λ f. IsCertificateFault soc limits bound (certificate_fault f))
-checked_faults soc limits bound (Ok u) check = tt
-checked_faults soc limits bound (Err (BadList place)) check = check
-checked_faults soc limits bound (Err (Less claimed shown)) check = check
+  pub checked_faults : (bound : BoundValue) (r : Result (Unit {0}) BoundFault) → IsCheck soc limits bound.cycles bound.why r → IfErr r (λ f. IsCertificateFault soc limits bound (certificate_fault f))
+  checked_faults bound (Ok u) check = tt
+  checked_faults bound (Err (BadList place)) check = check
+  checked_faults bound (Err (Less claimed shown)) check = check
 
-pub checked_bounds : (soc : SocValue) (limits : LimitsValue) (bound : BoundValue) (r : Result (Unit {0}) BoundFault) → 1 ≤ limits.wires → IsCheck soc limits bound.cycles bound.why r → OnOk r (IsBound soc limits bound.cycles)
-checked_bounds soc limits bound (Ok u) some check = accepted_bounds soc limits bound some (record { keeps = check.keeps; enough = check.enough })
-checked_bounds soc limits bound (Err fault) some check = tt
+  pub checked_bounds : (bound : BoundValue) (r : Result (Unit {0}) BoundFault) → 1 ≤ limits.wires → IsCheck soc limits bound.cycles bound.why r → OnOk r (IsBound soc limits bound.cycles)
+  checked_bounds bound (Ok u) some check = accepted_bounds soc limits bound some (record { keeps = check.keeps; enough = check.enough })
+  checked_bounds bound (Err fault) some check = tt
 
 kept-unbroken : {X : Type 0} (P : List X → X → Type 0) (xs : List X) (n : ℕ) (x : X) → Each P xs → IsFirstBreach P xs n x → ⊥
 kept-unbroken P xs n x keeps first = first.breaks (keeps n x first.there)
 
 -- a list that keeps its rule has no place that breaks it
-keeps_or_breaks : (soc : SocValue) (limits : LimitsValue) (claim : ℕ) (why : WhyValue) (place : ℕ) → KeepsList soc limits claim why → IsListBreach soc limits claim why place → ⊥
-keeps_or_breaks soc limits claim (OfModule m) place keeps breaks = breaks.0 keeps
-keeps_or_breaks soc limits claim (OfPair m) place keeps breaks = breaks.0 keeps
-keeps_or_breaks soc limits claim (OfChain tests) place keeps breaks = kept-unbroken (IsChainItem soc limits) tests place breaks.0 keeps breaks.1
-keeps_or_breaks soc limits claim OfArea place keeps breaks = breaks
-keeps_or_breaks soc limits claim OfPower place keeps breaks = breaks
-keeps_or_breaks soc limits claim (OfForced ms) place keeps breaks = kept-unbroken (IsForcedItem soc limits.wires claim) ms place breaks.0 keeps breaks.1
+module _ (soc : SocValue) (limits : LimitsValue) where
+  keeps_or_breaks : (claim : ℕ) (why : WhyValue) (place : ℕ) → KeepsList soc limits claim why → IsListBreach soc limits claim why place → ⊥
+  keeps_or_breaks claim (OfModule m) place keeps breaks = breaks.0 keeps
+  keeps_or_breaks claim (OfPair m) place keeps breaks = breaks.0 keeps
+  keeps_or_breaks claim (OfChain tests) place keeps breaks = kept-unbroken (IsChainItem soc limits) tests place breaks.0 keeps breaks.1
+  keeps_or_breaks claim OfArea place keeps breaks = breaks
+  keeps_or_breaks claim OfPower place keeps breaks = breaks
+  keeps_or_breaks claim (OfForced ms) place keeps breaks = kept-unbroken (IsForcedItem soc limits.wires claim) ms place breaks.0 keeps breaks.1
 
-pub checked_exact : (soc : SocValue) (limits : LimitsValue) (bound : BoundValue) (r : Result (Unit {0}) BoundFault) → IsCheck soc limits bound.cycles bound.why r → IsAccepted soc limits bound → r ≡ Ok tt
-checked_exact soc limits bound (Ok u) check accepted = refl
-checked_exact soc limits bound (Err (BadList place)) check accepted = absurd (keeps_or_breaks soc limits bound.cycles bound.why place accepted.keeps check)
-checked_exact soc limits bound (Err (Less claimed shown)) check accepted = absurd (omega (arith, check.1, check.2, check.3, accepted.enough))
+  pub checked_exact : (bound : BoundValue) (r : Result (Unit {0}) BoundFault) → IsCheck soc limits bound.cycles bound.why r → IsAccepted soc limits bound → r ≡ Ok tt
+  checked_exact bound (Ok u) check accepted = refl
+  checked_exact bound (Err (BadList place)) check accepted = absurd (keeps_or_breaks bound.cycles bound.why place accepted.keeps check)
+  checked_exact bound (Err (Less claimed shown)) check accepted = absurd (omega (arith, check.1, check.2, check.3, accepted.enough))

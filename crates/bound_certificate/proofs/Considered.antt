@@ -1,23 +1,18 @@
 -- One more candidate, and one more place.
-use Rattle.std.proofs.Common.{◌≡◌, ℕ, zero, suc, ◌+◌, ltb, Option, Some, None, option_map, List, [], ◌∷◌, ◌++◌, refl, ap, ◌∙◌, arith, inl, inr}
-use Rattle.std.specs.Prelude.{slice_get}
-use Rattle.std.specs.List.{fold, flat_map, range_with_len}
+use Rattle.std.proofs.Common.{◌≡◌, ℕ, suc, ◌+◌, ltb, Option, Some, None, option_map, List, [], ◌∷◌, ◌++◌, refl, ap, ◌∙◌, arith, inl, inr, slice_get, fold, flat_map}
+use Rattle.std.specs.List.{range_with_len}
 use Rattle.std.proofs.lemmas.Bool.{cases_Bool}
 use Rattle.std.proofs.lemmas.Option.{slice_get-map, get_or_from_slice_get}
 use Rattle.plan_model.specs.declared.Why.{Why}
-use Rattle.soc_model.specs.Chips.{SocValue, ModuleValue}
-use Rattle.plan_model.specs.Plans.{LimitsValue}
+use Rattle.soc_model.specs.Chips.{SocValue, ModuleValue, numbers, parent_place}
+use Rattle.plan_model.specs.Plans.{LimitsValue, OfModule, OfPair}
 use Rattle.plan_model.specs.Bounds.{module_bound, pair_bound}
 use Rattle.bound_certificate.proofs.Checks.{family_some}
-use Rattle.plan_model.specs.Certificates.{KeepsList}
-use Rattle.soc_model.specs.Chips.{numbers}
+use Rattle.plan_model.specs.Certificates.{KeepsList, certificate_value}
 use Rattle.plan_model.specs.Rules.{IsBound}
 use Rattle.soc_model.specs.SoundChips.{IsSoundChip}
-use Rattle.plan_model.specs.Plans.{OfModule, OfPair}
-use Rattle.plan_model.specs.Certificates.{certificate_value}
 use Rattle.plan_model.specs.Views.{why_value}
 use Rattle.soc_model.specs.Lookups.{module_place}
-use Rattle.soc_model.specs.Chips.{parent_place}
 use Rattle.soc_model.proofs.Places.{IsKeyed-from_sound, place-from_module}
 use Rattle.bound_certificate.specs.Best.{better, number_at}
 use Rattle.bound_certificate.specs.Winners.{considered, seen, HasValue}

@@ -1,7 +1,5 @@
 -- The greatest sum of a test from those of the tests before it, and how great it can be.
-use Rattle.std.proofs.Common.{◌≡◌, ◌⊎◌, inl, inr, ℕ, zero, suc, ◌+◌, ◌-◌, ◌*◌, ◌^◌, ◌≤◌, ◌<◌, Some, List, [], ◌∷◌, ◌++◌, length, get_or, refl, sym, ap, ◌∙◌, subst, arith}
-use Rattle.std.specs.Prelude.{slice_get, if◌then◌else◌}
-use Rattle.std.specs.List.{sum_by, Contains}
+use Rattle.std.proofs.Common.{◌≡◌, ◌⊎◌, inl, inr, ℕ, zero, suc, ◌+◌, ◌-◌, ◌*◌, ◌^◌, ◌≤◌, ◌<◌, Some, List, [], ◌∷◌, ◌++◌, length, get_or, refl, sym, ap, ◌∙◌, subst, arith, slice_get, if◌then◌else◌, sum_by, Contains}
 use Rattle.std.proofs.Math.Nat.{mul-le-mul_right}
 use Rattle.std.proofs.lemmas.Bool.{cases_Bool, cases_lt}
 use Rattle.std.proofs.lemmas.List.{length-map}
@@ -24,65 +22,66 @@ use Rattle.common_lemmas.proofs.Lists.{from_map, contains_at}
 
 -- ---- nodes and their tests
 
-pub node_live : (soc : SocValue) (limits : LimitsValue) (nodes : List NodeValue) → AreNodes soc limits nodes → (i : ℕ) (n : NodeValue) → slice_get nodes i ≡ Some n → slice_get (live_ids soc) i ≡ Some n.id
-node_live soc limits nodes are i n at = ap (λ (ids : List TestId). slice_get ids i) (sym are.ids) ∙ slice_get-map (λ (n : NodeValue). n.id) nodes i ∙ rw at refl
+module _ (soc : SocValue) (limits : LimitsValue) (nodes : List NodeValue) where
+  pub node_live : AreNodes soc limits nodes → (i : ℕ) (n : NodeValue) → slice_get nodes i ≡ Some n → slice_get (live_ids soc) i ≡ Some n.id
+  node_live are i n at = ap (λ (ids : List TestId). slice_get ids i) (sym are.ids) ∙ slice_get-map (λ (n : NodeValue). n.id) nodes i ∙ rw at refl
 
-pub node_of : (soc : SocValue) (limits : LimitsValue) (nodes : List NodeValue) → AreNodes soc limits nodes → (i : ℕ) (id : TestId) → slice_get (live_ids soc) i ≡ Some id → (n : NodeValue) × (slice_get nodes i ≡ Some n) × (n.id ≡ id)
-node_of soc limits nodes are i id at = from_map (λ (n : NodeValue). n.id) nodes i id (ap (λ (ids : List TestId). slice_get ids i) are.ids ∙ at)
+  pub node_of : AreNodes soc limits nodes → (i : ℕ) (id : TestId) → slice_get (live_ids soc) i ≡ Some id → (n : NodeValue) × (slice_get nodes i ≡ Some n) × (n.id ≡ id)
+  node_of are i id at = from_map (λ (n : NodeValue). n.id) nodes i id (ap (λ (ids : List TestId). slice_get ids i) are.ids ∙ at)
 
--- ---- one step
+  -- ---- one step
 
-pub sum_step : (soc : SocValue) (limits : LimitsValue) (nodes : List NodeValue) → AreNodes soc limits nodes → (j : ℕ) (n : NodeValue) (most : ℕ) → slice_get nodes j ≡ Some n → IsMost soc limits nodes n.before most → IsGreatestSum soc limits n.id (most + n.time)
-sum_step soc limits nodes are j n most at m = by m.attained
-  where
-    f : TestId → ℕ
-    f = lower_of_id soc limits.wires
+  pub sum_step : AreNodes soc limits nodes → (j : ℕ) (n : NodeValue) (most : ℕ) → slice_get nodes j ≡ Some n → IsMost soc limits nodes n.before most → IsGreatestSum soc limits n.id (most + n.time)
+  sum_step are j n most at m = by m.attained
+    where
+      f : TestId → ℕ
+      f = lower_of_id soc limits.wires
 
-    live : Contains (live_ids soc) n.id
-    live = at_contains (live_ids soc) j n.id (node_live soc limits nodes are j n at)
+      live : Contains (live_ids soc) n.id
+      live = at_contains (live_ids soc) j n.id (node_live are j n at)
 
-    time : n.time ≡ lower_of_id soc limits.wires n.id
-    time = are.times j n at
+      time : n.time ≡ lower_of_id soc limits.wires n.id
+      time = are.times j n at
 
-    -- no chain that ends in a test before it has a greater sum
-    front_small : (front : List TestId) → ComesFrom soc limits n.id front → sum_by (lower_of_id soc limits.wires) front ≤ most
-    front_small front c =
-        let p = contains_at (live_ids soc) c.a c.live in
-        let q = node_of soc limits nodes are p.0 c.a p.1 in
-        let before : Contains n.before p.0 = are.linked.all p.0 j q.0 n q.1 at (subst (λ (id : TestId). Contains limits.before (id, n.id)) (sym q.2) c.before) in
-        let k = contains_at n.before p.0 before in
-        let s = m.within k.0 p.0 k.1 in
-        let g : IsGreatestSum soc limits c.a s.0 = subst (λ (id : TestId). IsGreatestSum soc limits id s.0) q.2 (s.2 q.0 q.1) in
-        omega (arith, g.greatest front c.ends, s.1)
+      -- no chain that ends in a test before it has a greater sum
+      front_small : (front : List TestId) → ComesFrom soc limits n.id front → sum_by (lower_of_id soc limits.wires) front ≤ most
+      front_small front c =
+          let p = contains_at (live_ids soc) c.a c.live in
+          let q = node_of are p.0 c.a p.1 in
+          let before : Contains n.before p.0 = are.linked.all p.0 j q.0 n q.1 at (subst (λ (id : TestId). Contains limits.before (id, n.id)) (sym q.2) c.before) in
+          let k = contains_at n.before p.0 before in
+          let s = m.within k.0 p.0 k.1 in
+          let g : IsGreatestSum soc limits c.a s.0 = subst (λ (id : TestId). IsGreatestSum soc limits id s.0) q.2 (s.2 q.0 q.1) in
+          omega (arith, g.greatest front c.ends, s.1)
 
-    greatest : (others : List TestId) → EndsIn soc limits n.id others → sum_by (lower_of_id soc limits.wires) others ≤ most + n.time
-    greatest others ends =
-        let s : IsSplit soc limits n.id others = split_chain soc limits n.id others ends in
-        let sum : sum_by (lower_of_id soc limits.wires) others ≡ sum_by (lower_of_id soc limits.wires) s.front + lower_of_id soc limits.wires n.id = ap (sum_by (lower_of_id soc limits.wires)) s.is ∙ sum_by_push (lower_of_id soc limits.wires) s.front n.id in
-        front_by s sum s.from
-      where
-        front_by : (s : IsSplit soc limits n.id others) → sum_by (lower_of_id soc limits.wires) others ≡ sum_by (lower_of_id soc limits.wires) s.front + lower_of_id soc limits.wires n.id → (s.front ≡ []) ⊎ ComesFrom soc limits n.id s.front → sum_by (lower_of_id soc limits.wires) others ≤ most + n.time
-        front_by s sum (inl none) =
-            let zero_is : sum_by (lower_of_id soc limits.wires) s.front ≡ 0 = ap (sum_by (lower_of_id soc limits.wires)) none in
-            omega (arith, sum, zero_is, time)
-        front_by s sum (inr c) = omega (arith, sum, front_small s.front c, time)
+      greatest : (others : List TestId) → EndsIn soc limits n.id others → sum_by (lower_of_id soc limits.wires) others ≤ most + n.time
+      greatest others ends =
+          let s : IsSplit soc limits n.id others = split_chain soc limits n.id others ends in
+          let sum : sum_by (lower_of_id soc limits.wires) others ≡ sum_by (lower_of_id soc limits.wires) s.front + lower_of_id soc limits.wires n.id = ap (sum_by (lower_of_id soc limits.wires)) s.is ∙ sum_by_push (lower_of_id soc limits.wires) s.front n.id in
+          front_by s sum s.from
+        where
+          front_by : (s : IsSplit soc limits n.id others) → sum_by (lower_of_id soc limits.wires) others ≡ sum_by (lower_of_id soc limits.wires) s.front + lower_of_id soc limits.wires n.id → (s.front ≡ []) ⊎ ComesFrom soc limits n.id s.front → sum_by (lower_of_id soc limits.wires) others ≤ most + n.time
+          front_by s sum (inl none) =
+              let zero_is : sum_by (lower_of_id soc limits.wires) s.front ≡ 0 = ap (sum_by (lower_of_id soc limits.wires)) none in
+              omega (arith, sum, zero_is, time)
+          front_by s sum (inr c) = omega (arith, sum, front_small s.front c, time)
 
-    by : (most ≡ 0) ⊎ ((p : ℕ) × Contains n.before p × HasSum soc limits nodes p most) → IsGreatestSum soc limits n.id (most + n.time)
-    by (inl none) = record {
-      ids = n.id ∷ [];
-      ends = chain_one soc limits n.id live;
-      sum_is = omega (arith, none, time, sum_by_push (lower_of_id soc limits.wires) [] n.id);
-      greatest = greatest;
-    }
-    by (inr c) =
-        let l = are.linked.listed j c.0 n at c.1 in
-        let g : IsGreatestSum soc limits (l.0).id most = c.2 l.0 l.1 in
-        record {
-          ids = g.ids ++ n.id ∷ [];
-          ends = chain_push soc limits g.ids (l.0).id n.id g.ends live l.2;
-          sum_is = omega (arith, g.sum_is, time, sum_by_push (lower_of_id soc limits.wires) g.ids n.id);
-          greatest = greatest;
-        }
+      by : (most ≡ 0) ⊎ ((p : ℕ) × Contains n.before p × HasSum soc limits nodes p most) → IsGreatestSum soc limits n.id (most + n.time)
+      by (inl none) = record {
+        ids = n.id ∷ [];
+        ends = chain_one soc limits n.id live;
+        sum_is = omega (arith, none, time, sum_by_push (lower_of_id soc limits.wires) [] n.id);
+        greatest = greatest;
+      }
+      by (inr c) =
+          let l = are.linked.listed j c.0 n at c.1 in
+          let g : IsGreatestSum soc limits (l.0).id most = c.2 l.0 l.1 in
+          record {
+            ids = g.ids ++ n.id ∷ [];
+            ends = chain_push soc limits g.ids (l.0).id n.id g.ends live l.2;
+            sum_is = omega (arith, g.sum_is, time, sum_by_push (lower_of_id soc limits.wires) g.ids n.id);
+            greatest = greatest;
+          }
 
 -- ---- how many tests a chain has
 

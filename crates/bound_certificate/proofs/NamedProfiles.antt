@@ -1,6 +1,5 @@
 -- No test has two profiles, so that the names of the tests that have any differ.
-use Rattle.std.proofs.Common.{◌≡◌, ℕ, zero, suc, ◌+◌, ◌<◌, Some, None, List, [], ◌∷◌, length, get_or, map, drop, refl, ap, ◌∙◌, sym, arith, inl, inr}
-use Rattle.std.specs.Prelude.{slice_get}
+use Rattle.std.proofs.Common.{◌≡◌, ℕ, zero, suc, ◌+◌, ◌<◌, Some, None, List, [], ◌∷◌, length, get_or, map, drop, refl, ap, ◌∙◌, sym, arith, inl, inr, slice_get}
 use Rattle.std.specs.List.{position_from}
 use Rattle.std.proofs.lemmas.Bool.{cases_Bool}
 use Rattle.std.proofs.lemmas.Option.{slice_get-map, slice_get-get_or}

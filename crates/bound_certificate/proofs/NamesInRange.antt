@@ -1,7 +1,5 @@
 -- The names of an accepted certificate are in the chip, and their numbers in the range of a plan file.
-use Rattle.std.proofs.Common.{◌≡◌, ℕ, ◌+◌, ◌≤◌, ◌<◌, Bool, Option, Some, None, is_some, List, [], ◌∷◌, ◌++◌, get_or, subst, refl, ap, arith}
-use Rattle.std.specs.Prelude.{slice_get, IsTrue}
-use Rattle.std.specs.List.{All, Contains, flat_map}
+use Rattle.std.proofs.Common.{◌≡◌, ℕ, ◌+◌, ◌≤◌, ◌<◌, Bool, Option, Some, None, is_some, List, [], ◌∷◌, ◌++◌, get_or, subst, refl, ap, arith, slice_get, IsTrue, All, Contains, flat_map}
 use Rattle.std.proofs.lemmas.List.Elements.{All-get_or, All-weaker}
 use Rattle.std.proofs.lemmas.Option.{slice_get-get_or, slice_get_within, get_or_from_slice_get}
 use Rattle.soc_model.specs.declared.Test.{Test}

@@ -6,7 +6,6 @@ ghost use Rattle.plan_model.specs.Views.{limits_value, bound_value, why_value};
 ghost use Rattle.plan_model.specs.Rules.{Each, IsBound};
 ghost use Rattle.plan_model.specs.SoundLimits.{IsSoundLimits};
 ghost use Rattle.plan_model.specs.Certificates.{IsAccepted, IsElementary, IsChainItem};
-ghost use Rattle.live_tests.specs.Resolved.{IsResolved};
 ghost use Rattle.bound_certificate.specs.Best.{IsBestWith, IsBestBound, NamesInChip, HasPlanNumbers};
 ghost use Rattle.bound_certificate.specs.Winners.{names_of, IsClaimed};
 
@@ -14,7 +13,7 @@ use crate::candidates::winner_of;
 use crate::chains::printed_chain;
 use crate::forced_lists::forced_sum;
 use crate::forced_part::forced_part;
-use live_tests::Resolved;
+use live_tests::{Problem, Resolved};
 use outside::NoMemory;
 use plan_model::{Bound, Limits, Why};
 use soc_model::{Soc, TestId};
@@ -33,27 +32,23 @@ fn claimed(best: Option<(u128, Why)>) -> (u128, Why)
 /// The planner's bound at the cycles of a good plan, with this precedence chain among the candidates.
 fn best_with(
     alloc: Global,
-    soc: &Soc,
-    limits: &Limits,
-    resolved: &Resolved,
+    problem: &Problem<'_>,
     cycles: u64,
     chain: Option<Vec<TestId>>,
 ) -> Result<Bound, NoMemory>
-    requires sound { IsSoundChip (soc_value soc.now) }
-    requires limits { IsSoundLimits (soc_value soc.now) (limits_value limits.now) }
-    requires resolved { IsResolved (soc_value soc.now) limits.now resolved.now }
-    requires chain { IfSome chain (λ v. Each (IsChainItem (soc_value soc.now) (limits_value limits.now)) v.items) }
-    requires good { (n : ℕ) → IsBound (soc_value soc.now) (limits_value limits.now) n → n ≤ cycles }
-    ensures best { IfOk result (λ bound. IsBestWith (soc_value soc.now) (limits_value limits.now) cycles (names_of chain)
+    requires chain { IfSome chain (λ v. Each (IsChainItem problem.now.soc problem.now.limits) v.items) }
+    requires good { (n : ℕ) → IsBound problem.now.soc problem.now.limits n → n ≤ cycles }
+    ensures best { IfOk result (λ bound. IsBestWith problem.now.soc problem.now.limits cycles (names_of chain)
         (bound_value bound)) }
-    ensures accepted { IfOk result (λ bound. IsAccepted (soc_value soc.now) (limits_value limits.now) (bound_value bound)) }
+    ensures accepted { IfOk result (λ bound. IsAccepted problem.now.soc problem.now.limits (bound_value bound)) }
     ensures few { IfOk result (λ bound. bound.cycles ≤ cycles) }
 {
-    let (shown, why) = claimed(winner_of(soc, limits, resolved, chain));
+    let soc = problem.soc;
+    let (shown, why) = claimed(winner_of(problem, chain));
     let wanted = u128::from(cycles);
     if shown < wanted {
-        let modules = forced_part(alloc, soc, limits, cycles)?;
-        if wanted <= forced_sum(soc, &modules, limits.wires) {
+        let modules = forced_part(alloc, problem, cycles)?;
+        if wanted <= forced_sum(soc, &modules, problem.limits.wires) {
             return Ok(Bound {
                 cycles,
                 why: Why::Forced { modules },
@@ -83,29 +78,24 @@ pub fn best_bound(alloc: Global, soc: &Soc, limits: &Limits, cycles: u64) -> Res
     ensures numbers { IfOk result (λ bound. HasPlanNumbers (why_value bound.why)) }
 {
     let resolved = Resolved::new(alloc, soc, limits)?;
-    best_bound_with(alloc, soc, limits, &resolved, cycles)
+    let problem = Problem::new(soc, limits, &resolved);
+    best_bound_with(alloc, &problem, cycles)
 }
 
-/// The same bound, where the chip and its limits are resolved already.
-pub fn best_bound_with(
-    alloc: Global,
-    soc: &Soc,
-    limits: &Limits,
-    resolved: &Resolved,
-    cycles: u64,
-) -> Result<Bound, NoMemory>
-    requires sound { IsSoundChip (soc_value soc.now) }
-    requires limits { IsSoundLimits (soc_value soc.now) (limits_value limits.now) }
-    requires resolved { IsResolved (soc_value soc.now) limits.now resolved.now }
-    requires good { (n : ℕ) → IsBound (soc_value soc.now) (limits_value limits.now) n → n ≤ cycles }
-    ensures best { IfOk result (λ bound. IsBestBound (soc_value soc.now) (limits_value limits.now) cycles (bound_value bound)) }
-    ensures accepted { IfOk result (λ bound. IsAccepted (soc_value soc.now) (limits_value limits.now) (bound_value bound)) }
-    ensures bound { IfOk result (λ bound. IsBound (soc_value soc.now) (limits_value limits.now) bound.cycles) }
-    ensures elementary { IfOk result (λ bound. (n : ℕ) → IsElementary (soc_value soc.now) (limits_value limits.now) n → n ≤ bound.cycles) }
+/// The same bound of a problem.
+pub fn best_bound_with(alloc: Global, problem: &Problem<'_>, cycles: u64) -> Result<Bound, NoMemory>
+    requires good { (n : ℕ) → IsBound problem.now.soc problem.now.limits n → n ≤ cycles }
+    ensures best { IfOk result (λ bound. IsBestBound problem.now.soc problem.now.limits cycles (bound_value bound)) }
+    ensures accepted { IfOk result (λ bound. IsAccepted problem.now.soc problem.now.limits (bound_value bound)) }
+    ensures bound { IfOk result (λ bound. IsBound problem.now.soc problem.now.limits bound.cycles) }
+    ensures elementary { IfOk result (λ bound. (n : ℕ) → IsElementary problem.now.soc problem.now.limits n → n ≤ bound.cycles) }
     ensures few { IfOk result (λ bound. bound.cycles ≤ cycles) }
-    ensures names { IfOk result (λ bound. NamesInChip (soc_value soc.now) (why_value bound.why)) }
+    ensures names { IfOk result (λ bound. NamesInChip problem.now.soc (why_value bound.why)) }
     ensures numbers { IfOk result (λ bound. HasPlanNumbers (why_value bound.why)) }
 {
-    let chain = printed_chain(alloc, soc, limits, &resolved.precedences)?;
-    best_with(alloc, soc, limits, resolved, cycles, chain)
+    // opened for what it keeps
+    let _ = &problem.soc;
+    let chain = printed_chain(alloc, problem)?;
+    let bound = best_with(alloc, problem, cycles, chain)?;
+    Ok(bound)
 }

@@ -3,22 +3,15 @@
 ghost use Rattle.std.specs.Prelude.{◌≡◌, ◌<◌, ◌&&◌, IfSome, length};
 ghost use Rattle.std.specs.List.{fold, flat_map};
 ghost use Rattle.soc_model.specs.Chips.{soc_value, module_value, parent_place};
-ghost use Rattle.soc_model.specs.SoundChips.{IsSoundChip};
-ghost use Rattle.plan_model.specs.Views.{limits_value};
 ghost use Rattle.plan_model.specs.Plans.{OfArea};
 ghost use Rattle.plan_model.specs.Rules.{Each};
-ghost use Rattle.plan_model.specs.SoundLimits.{IsSoundLimits};
 ghost use Rattle.plan_model.specs.Certificates.{certificate_value, passes, IsChainItem};
-ghost use Rattle.live_tests.specs.Parents.{AreParentPlaces};
-ghost use Rattle.live_tests.specs.Profiles.{AreProfilePlaces};
-ghost use Rattle.live_tests.specs.Resolved.{IsResolved};
 ghost use Rattle.bound_certificate.specs.Best.{has_live, has_live_at, module_why, pair_why, chain_why, power_why, places, candidates, better, winner};
 ghost use Rattle.bound_certificate.specs.Winners.{considered, seen, HasValue, names_of};
 
 use bound_rules::{area_bound, chain_bound, module_bound, pair_bound_with, power_bound_with};
-use indexmap::IndexMap;
-use live_tests::Resolved;
-use plan_model::{Limits, Why};
+use live_tests::Problem;
+use plan_model::Why;
 use soc_model::{Module, Soc, TestId, live, module_at};
 
 /// What one more candidate makes of the best so far; among equals the earlier one stays.
@@ -70,122 +63,102 @@ fn has_live_family(soc: &Soc, place: usize, parent: Option<usize>) -> bool
 
 /// The module's candidate.
 fn consider_module(
-    soc: &Soc,
-    limits: &Limits,
+    problem: &Problem<'_>,
     place: usize,
     best: Option<(u128, Why)>,
 ) -> Option<(u128, Why)>
-    requires sound { IsSoundChip (soc_value soc.now) }
-    requires limits { IsSoundLimits (soc_value soc.now) (limits_value limits.now) }
-    requires place { place < length (soc_value soc.now).modules }
-    requires value { HasValue (soc_value soc.now) (limits_value limits.now) best }
-    ensures seen { seen result ≡ fold (better (certificate_value (soc_value soc.now) (limits_value limits.now))) (seen best)
-        (module_why (soc_value soc.now) place) }
-    ensures value { HasValue (soc_value soc.now) (limits_value limits.now) result }
+    requires place { place < length problem.now.soc.modules }
+    requires value { HasValue problem.now.soc problem.now.limits best }
+    ensures seen { seen result ≡ fold (better (certificate_value problem.now.soc problem.now.limits)) (seen best)
+        (module_why problem.now.soc place) }
+    ensures value { HasValue problem.now.soc problem.now.limits result }
 {
+    let soc = problem.soc;
     if !has_live_test(soc, place) {
         return best;
     }
     let module = module_at(soc, place).number;
-    let shown = u128::from(module_bound(soc, place, limits.wires));
+    let shown = u128::from(module_bound(soc, place, problem.limits.wires));
     better_known(best, shown, Why::Module { module })
 }
 
 /// The candidates of the modules.
-fn consider_modules(soc: &Soc, limits: &Limits, best: Option<(u128, Why)>) -> Option<(u128, Why)>
-    requires sound { IsSoundChip (soc_value soc.now) }
-    requires limits { IsSoundLimits (soc_value soc.now) (limits_value limits.now) }
-    requires value { HasValue (soc_value soc.now) (limits_value limits.now) best }
-    ensures seen { seen result ≡ fold (better (certificate_value (soc_value soc.now) (limits_value limits.now))) (seen best)
-        (flat_map (module_why (soc_value soc.now)) (places (soc_value soc.now))) }
-    ensures value { HasValue (soc_value soc.now) (limits_value limits.now) result }
+fn consider_modules(problem: &Problem<'_>, best: Option<(u128, Why)>) -> Option<(u128, Why)>
+    requires value { HasValue problem.now.soc problem.now.limits best }
+    ensures seen { seen result ≡ fold (better (certificate_value problem.now.soc problem.now.limits)) (seen best)
+        (flat_map (module_why problem.now.soc) (places problem.now.soc)) }
+    ensures value { HasValue problem.now.soc problem.now.limits result }
 {
     let mut best = best;
-    for place in 0..soc.modules.len() {
-        best = consider_module(soc, limits, place, best);
+    for place in 0..problem.soc.modules.len() {
+        best = consider_module(problem, place, best);
     }
     best
 }
 
 /// The candidate of the module and its parent.
 fn consider_pair(
-    soc: &Soc,
-    limits: &Limits,
+    problem: &Problem<'_>,
     place: usize,
-    parent: Option<usize>,
     best: Option<(u128, Why)>,
 ) -> Option<(u128, Why)>
-    requires sound { IsSoundChip (soc_value soc.now) }
-    requires limits { IsSoundLimits (soc_value soc.now) (limits_value limits.now) }
-    requires place { place < length (soc_value soc.now).modules }
-    requires parent { parent ≡ parent_place (soc_value soc.now).modules place }
-    requires value { HasValue (soc_value soc.now) (limits_value limits.now) best }
-    ensures seen { seen result ≡ fold (better (certificate_value (soc_value soc.now) (limits_value limits.now))) (seen best)
-        (pair_why (soc_value soc.now) place) }
-    ensures value { HasValue (soc_value soc.now) (limits_value limits.now) result }
+    requires place { place < length problem.now.soc.modules }
+    requires value { HasValue problem.now.soc problem.now.limits best }
+    ensures seen { seen result ≡ fold (better (certificate_value problem.now.soc problem.now.limits)) (seen best)
+        (pair_why problem.now.soc place) }
+    ensures value { HasValue problem.now.soc problem.now.limits result }
 {
+    let soc = problem.soc;
+    let parent = problem.resolved.parents[place];
     if !has_live_family(soc, place, parent) {
         return best;
     }
     let module = module_at(soc, place).number;
-    match pair_bound_with(soc, place, parent, limits.wires) {
+    match pair_bound_with(soc, place, parent, problem.limits.wires) {
         None => best,
         Some(shown) => better_known(best, u128::from(shown), Why::Pair { module }),
     }
 }
 
 /// The candidates of the modules with their parents.
-fn consider_pairs(
-    soc: &Soc,
-    limits: &Limits,
-    parents: &[Option<usize>],
-    best: Option<(u128, Why)>,
-) -> Option<(u128, Why)>
-    requires sound { IsSoundChip (soc_value soc.now) }
-    requires limits { IsSoundLimits (soc_value soc.now) (limits_value limits.now) }
-    requires parents { AreParentPlaces (soc_value soc.now) parents.now }
-    requires value { HasValue (soc_value soc.now) (limits_value limits.now) best }
-    ensures seen { seen result ≡ fold (better (certificate_value (soc_value soc.now) (limits_value limits.now))) (seen best)
-        (flat_map (pair_why (soc_value soc.now)) (places (soc_value soc.now))) }
-    ensures value { HasValue (soc_value soc.now) (limits_value limits.now) result }
+fn consider_pairs(problem: &Problem<'_>, best: Option<(u128, Why)>) -> Option<(u128, Why)>
+    requires value { HasValue problem.now.soc problem.now.limits best }
+    ensures seen { seen result ≡ fold (better (certificate_value problem.now.soc problem.now.limits)) (seen best)
+        (flat_map (pair_why problem.now.soc) (places problem.now.soc)) }
+    ensures value { HasValue problem.now.soc problem.now.limits result }
 {
     let mut best = best;
-    for place in 0..parents.len() {
-        best = consider_pair(soc, limits, place, parents[place], best);
+    for place in 0..problem.soc.modules.len() {
+        best = consider_pair(problem, place, best);
     }
     best
 }
 
 /// The candidate Area.
-fn consider_area(soc: &Soc, limits: &Limits, best: Option<(u128, Why)>) -> Option<(u128, Why)>
-    requires sound { IsSoundChip (soc_value soc.now) }
-    requires limits { IsSoundLimits (soc_value soc.now) (limits_value limits.now) }
-    requires value { HasValue (soc_value soc.now) (limits_value limits.now) best }
-    ensures seen { seen result ≡ better (certificate_value (soc_value soc.now) (limits_value limits.now)) (seen best) OfArea }
-    ensures value { HasValue (soc_value soc.now) (limits_value limits.now) result }
+fn consider_area(problem: &Problem<'_>, best: Option<(u128, Why)>) -> Option<(u128, Why)>
+    requires value { HasValue problem.now.soc problem.now.limits best }
+    ensures seen { seen result ≡ better (certificate_value problem.now.soc problem.now.limits) (seen best) OfArea }
+    ensures value { HasValue problem.now.soc problem.now.limits result }
 {
-    better_known(best, u128::from(area_bound(soc, limits.wires)), Why::Area)
+    better_known(
+        best,
+        u128::from(area_bound(problem.soc, problem.limits.wires)),
+        Why::Area,
+    )
 }
 
 /// The candidate Power, where the limits have a power.
-fn consider_power(
-    soc: &Soc,
-    limits: &Limits,
-    places: &IndexMap<TestId, usize>,
-    best: Option<(u128, Why)>,
-) -> Option<(u128, Why)>
-    requires sound { IsSoundChip (soc_value soc.now) }
-    requires limits { IsSoundLimits (soc_value soc.now) (limits_value limits.now) }
-    requires places { AreProfilePlaces places.now limits.now.profiles.items }
-    requires value { HasValue (soc_value soc.now) (limits_value limits.now) best }
-    ensures seen { seen result ≡ fold (better (certificate_value (soc_value soc.now) (limits_value limits.now))) (seen best)
-        (power_why limits.now.power) }
-    ensures value { HasValue (soc_value soc.now) (limits_value limits.now) result }
+fn consider_power(problem: &Problem<'_>, best: Option<(u128, Why)>) -> Option<(u128, Why)>
+    requires value { HasValue problem.now.soc problem.now.limits best }
+    ensures seen { seen result ≡ fold (better (certificate_value problem.now.soc problem.now.limits)) (seen best)
+        (power_why problem.now.limits.power) }
+    ensures value { HasValue problem.now.soc problem.now.limits result }
 {
-    match limits.power {
+    match problem.limits.power {
         None => best,
         Some(_) => {
-            let shown = u128::from(power_bound_with(soc, limits, places));
+            let places = &problem.resolved.profiles;
+            let shown = u128::from(power_bound_with(problem.soc, problem.limits, places));
             better_known(best, shown, Why::Power)
         }
     }
@@ -193,46 +166,35 @@ fn consider_power(
 
 /// The candidate of the printed chain.
 fn consider_chain(
-    soc: &Soc,
-    limits: &Limits,
+    problem: &Problem<'_>,
     chain: Option<Vec<TestId>>,
     best: Option<(u128, Why)>,
 ) -> Option<(u128, Why)>
-    requires sound { IsSoundChip (soc_value soc.now) }
-    requires limits { IsSoundLimits (soc_value soc.now) (limits_value limits.now) }
-    requires chain { IfSome chain (λ v. Each (IsChainItem (soc_value soc.now) (limits_value limits.now)) v.items) }
-    requires value { HasValue (soc_value soc.now) (limits_value limits.now) best }
-    ensures seen { seen result ≡ fold (better (certificate_value (soc_value soc.now) (limits_value limits.now))) (seen best)
+    requires chain { IfSome chain (λ v. Each (IsChainItem problem.now.soc problem.now.limits) v.items) }
+    requires value { HasValue problem.now.soc problem.now.limits best }
+    ensures seen { seen result ≡ fold (better (certificate_value problem.now.soc problem.now.limits)) (seen best)
         (chain_why (names_of chain)) }
-    ensures value { HasValue (soc_value soc.now) (limits_value limits.now) result }
+    ensures value { HasValue problem.now.soc problem.now.limits result }
 {
     match chain {
         None => best,
         Some(tests) => {
-            let shown = chain_bound(soc, &tests, limits.wires);
+            let shown = chain_bound(problem.soc, &tests, problem.limits.wires);
             better_known(best, shown, Why::Chain { tests })
         }
     }
 }
 
 /// The first candidate of greatest value, with its value.
-pub fn winner_of(
-    soc: &Soc,
-    limits: &Limits,
-    resolved: &Resolved,
-    chain: Option<Vec<TestId>>,
-) -> Option<(u128, Why)>
-    requires sound { IsSoundChip (soc_value soc.now) }
-    requires limits { IsSoundLimits (soc_value soc.now) (limits_value limits.now) }
-    requires resolved { IsResolved (soc_value soc.now) limits.now resolved.now }
-    requires chain { IfSome chain (λ v. Each (IsChainItem (soc_value soc.now) (limits_value limits.now)) v.items) }
-    ensures seen { seen result ≡ winner (certificate_value (soc_value soc.now) (limits_value limits.now))
-        (candidates (soc_value soc.now) (limits_value limits.now) (names_of chain)) }
-    ensures value { HasValue (soc_value soc.now) (limits_value limits.now) result }
+pub fn winner_of(problem: &Problem<'_>, chain: Option<Vec<TestId>>) -> Option<(u128, Why)>
+    requires chain { IfSome chain (λ v. Each (IsChainItem problem.now.soc problem.now.limits) v.items) }
+    ensures seen { seen result ≡ winner (certificate_value problem.now.soc problem.now.limits)
+        (candidates problem.now.soc problem.now.limits (names_of chain)) }
+    ensures value { HasValue problem.now.soc problem.now.limits result }
 {
-    let best = consider_modules(soc, limits, None);
-    let best = consider_pairs(soc, limits, &resolved.parents, best);
-    let best = consider_chain(soc, limits, chain, best);
-    let best = consider_area(soc, limits, best);
-    consider_power(soc, limits, &resolved.profiles, best)
+    let best = consider_modules(problem, None);
+    let best = consider_pairs(problem, best);
+    let best = consider_chain(problem, chain, best);
+    let best = consider_area(problem, best);
+    consider_power(problem, best)
 }

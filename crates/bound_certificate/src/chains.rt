@@ -3,14 +3,10 @@
 ghost use Rattle.std.specs.Prelude.{◌≡◌, ◌<◌, List, ◌∷◌, length, reverse, slice_get, IfOk, IfSome, Some};
 ghost use Rattle.std.specs.List.{All, Contains};
 ghost use Rattle.soc_model.specs.declared.TestId.{TestId as TheTestId};
-ghost use Rattle.soc_model.specs.Chips.{SocValue, soc_value};
-ghost use Rattle.soc_model.specs.SoundChips.{IsSoundChip};
+ghost use Rattle.soc_model.specs.Chips.{SocValue};
 ghost use Rattle.plan_model.specs.Plans.{LimitsValue};
 ghost use Rattle.plan_model.specs.Rules.{Each};
-ghost use Rattle.plan_model.specs.SoundLimits.{IsSoundLimits};
-ghost use Rattle.plan_model.specs.Views.{limits_value};
 ghost use Rattle.plan_model.specs.Certificates.{IsChainItem};
-ghost use Rattle.live_tests.specs.Names.{precedences as precedences_of};
 ghost use Rattle.bound_certificate.specs.Best.{GoesBack, IsPrintedChain, IsGreatestChain};
 ghost use Rattle.bound_certificate.specs.Nodes.{NodeValue, node_values, AreNodes};
 ghost use Rattle.bound_certificate.specs.Sums.{AreSums};
@@ -19,9 +15,9 @@ ghost use Rattle.bound_certificate.specs.Winners.{names_of};
 
 use crate::nodes::{PrecedenceNode, nodes_of};
 use crate::sums::greatest_sums;
+use live_tests::Problem;
 use outside::{NoMemory, push};
-use plan_model::Limits;
-use soc_model::{Soc, TestId};
+use soc_model::TestId;
 use std::alloc::Global;
 
 /// The test of greater sum of two, or the earlier one.
@@ -119,21 +115,15 @@ fn best_chain(
 /// goes back from each test to the one of greatest sum among those that precede it, the first in the order of the chip,
 /// until none does. None comes exactly where no live test precedes another one. No such list of at least two tests has a
 /// greater sum than the chain.
-pub fn printed_chain(
-    alloc: Global,
-    soc: &Soc,
-    limits: &Limits,
-    precedences: &[(usize, usize)],
-) -> Result<Option<Vec<TestId>>, NoMemory>
-    requires sound { IsSoundChip (soc_value soc.now) }
-    requires limits { IsSoundLimits (soc_value soc.now) (limits_value limits.now) }
-    requires precedences { precedences.now ≡ precedences_of (soc_value soc.now) (limits_value limits.now) }
-    ensures printed { IfOk result (λ chain. IsPrintedChain (soc_value soc.now) (limits_value limits.now) (names_of chain)) }
+pub fn printed_chain(alloc: Global, problem: &Problem<'_>) -> Result<Option<Vec<TestId>>, NoMemory>
+    ensures printed { IfOk result (λ chain. IsPrintedChain problem.now.soc problem.now.limits (names_of chain)) }
     ensures keeps { IfOk result (λ chain. IfSome chain (λ tests.
-        Each (IsChainItem (soc_value soc.now) (limits_value limits.now)) tests.items)) }
-    ensures greatest { IfOk result (λ chain. IsGreatestChain (soc_value soc.now) (limits_value limits.now) (names_of chain)) }
+        Each (IsChainItem problem.now.soc problem.now.limits) tests.items)) }
+    ensures greatest { IfOk result (λ chain. IsGreatestChain problem.now.soc problem.now.limits (names_of chain)) }
 {
-    let nodes = nodes_of(alloc, soc, limits, precedences)?;
+    // opened for what it keeps
+    let _ = &problem.limits;
+    let nodes = nodes_of(alloc, problem)?;
     let sums = greatest_sums(alloc, &nodes)?;
     best_chain(alloc, &nodes, &sums)
 }

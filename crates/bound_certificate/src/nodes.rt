@@ -2,15 +2,12 @@
 ghost use Rattle.std.specs.Prelude.{◌≡◌, ℕ, ◌<◌, ◌≤◌, ◌++◌, length, IfOk, OnOk};
 ghost use Rattle.soc_model.specs.Chips.{soc_value, module_value};
 ghost use Rattle.soc_model.specs.SoundChips.{IsSoundChip};
-ghost use Rattle.plan_model.specs.Views.{limits_value};
-ghost use Rattle.live_tests.specs.Names.{precedences as precedences_of};
 ghost use Rattle.bound_rules.specs.Sizes.{IsMeasurable};
 ghost use Rattle.bound_certificate.specs.Nodes.{node_values, fixed_parts, before_at, tests_at, nodes_in, live_nodes as nodes_of_tests, AreNodes};
 
 use bound_rules::LowerTimes;
-use live_tests::{Neighbours, all_before};
+use live_tests::{Neighbours, Problem, all_before};
 use outside::{NoMemory, push};
-use plan_model::Limits;
 use soc_model::{Module, Soc, TestId, live};
 use std::alloc::Global;
 use std::mem;
@@ -79,19 +76,11 @@ fn link_nodes(nodes: &mut Vec<PrecedenceNode>, lists: &mut Vec<Neighbours>)
 }
 
 /// The live tests in the order of the chip, with their precedences.
-pub fn nodes_of(
-    alloc: Global,
-    soc: &Soc,
-    limits: &Limits,
-    precedences: &[(usize, usize)],
-) -> Result<Vec<PrecedenceNode>, NoMemory>
-    requires sound { IsSoundChip (soc_value soc.now) }
-    requires wires { 1 ≤ limits.now.wires }
-    requires precedences { precedences.now ≡ precedences_of (soc_value soc.now) (limits_value limits.now) }
-    ensures { IfOk result (λ nodes. AreNodes (soc_value soc.now) (limits_value limits.now) (node_values nodes.items)) }
+pub fn nodes_of(alloc: Global, problem: &Problem<'_>) -> Result<Vec<PrecedenceNode>, NoMemory>
+    ensures { IfOk result (λ nodes. AreNodes problem.now.soc problem.now.limits (node_values nodes.items)) }
 {
-    let mut nodes = live_nodes(alloc, soc, limits.wires)?;
-    let mut before = all_before(alloc, nodes.len(), precedences)?;
+    let mut nodes = live_nodes(alloc, problem.soc, problem.limits.wires)?;
+    let mut before = all_before(alloc, nodes.len(), &problem.resolved.precedences)?;
     link_nodes(&mut nodes, &mut before);
     Ok(nodes)
 }

@@ -6,5 +6,6 @@ mod deciding;
 mod lines;
 mod top;
 
+pub use deciding::checked_proof;
 pub use lines::{proof_fault_line, proof_line};
 pub use top::check_bound;

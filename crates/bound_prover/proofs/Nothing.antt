@@ -1,13 +1,11 @@
 -- The proof that claims nothing is accepted for every chip under sound limits.
-use Rattle.std.proofs.Common.{ℕ, zero, suc, ◌≤◌, [], inr, refl, subst, arith}
-use Rattle.std.specs.Prelude.{MatchOption, slice_get}
+use Rattle.std.proofs.Common.{ℕ, zero, suc, ◌≤◌, [], inr, refl, subst, arith, MatchOption, slice_get}
 use Rattle.std.proofs.lemmas.List.Elements.{All-nil}
 use Rattle.soc_model.specs.Chips.{SocValue}
 use Rattle.plan_model.specs.Plans.{LimitsValue}
 use Rattle.plan_model.specs.SoundLimits.{IsSoundLimits}
-use Rattle.proof_model.specs.Proofs.{WeightsValue, Leaf}
+use Rattle.proof_model.specs.Proofs.{WeightsValue, Leaf, OfSum, OfLeaf}
 use Rattle.bus_proofs.specs.Cases.{NodeCase, root_case, tightened, in_case, cases_of}
-use Rattle.proof_model.specs.Proofs.{OfSum, OfLeaf}
 use Rattle.bus_proofs.specs.Leaves.{IsKnownList, worth_of_cycle, LeafHolds}
 use Rattle.bus_proofs.specs.Bounds.{IsEnough, AreEnough, IsAccepted, all_cases}
 use Rattle.bound_prover.specs.Proved.{IsProved, no_claim}

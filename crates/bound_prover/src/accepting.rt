@@ -1,10 +1,5 @@
 //! The text of a proof that was found, where it is accepted.
 ghost use Rattle.std.specs.Prelude.{◌≡◌, ◌≤◌, true, IfOk, IfSome};
-ghost use Rattle.soc_model.specs.Chips.{soc_value};
-ghost use Rattle.soc_model.specs.SoundChips.{IsSoundChip};
-ghost use Rattle.plan_model.specs.SoundLimits.{IsSoundLimits};
-ghost use Rattle.plan_model.specs.Views.{limits_value};
-ghost use Rattle.live_tests.specs.Resolved.{IsResolved};
 ghost use Rattle.proof_model.specs.Proofs.{proof_value};
 ghost use Rattle.proof_model.specs.Sayable.{MayBeSaid};
 ghost use Rattle.bus_proofs.specs.Bounds.{IsAccepted};
@@ -12,12 +7,10 @@ ghost use Rattle.bound_prover.specs.Proved.{IsPrinted, IsProofText, IsReadable, 
 
 use bus_proofs::{ProofRoom, check_proof};
 use commands::FILE_MOST;
-use live_tests::Resolved;
+use live_tests::Problem;
 use outside::{NoMemory, push};
-use plan_model::Limits;
 use proof_model::{Node, Proof, Weights};
 use proof_text::{ProofTextFault, print_proof, read_proof};
-use soc_model::Soc;
 use std::alloc::Global;
 
 /// The proof that a text says; none where it says none.
@@ -32,20 +25,11 @@ fn read_again(alloc: Global, text: &[u8]) -> Result<Option<Proof>, NoMemory>
 }
 
 /// Whether a proof is accepted.
-fn is_accepted(
-    alloc: Global,
-    soc: &Soc,
-    limits: &Limits,
-    resolved: &Resolved,
-    proof: &Proof,
-) -> Result<bool, NoMemory>
-    requires chip { IsSoundChip (soc_value soc.now) }
-    requires limits { IsSoundLimits (soc_value soc.now) (limits_value limits.now) }
-    requires resolved { IsResolved (soc_value soc.now) limits.now resolved.now }
+fn is_accepted(alloc: Global, problem: &Problem<'_>, proof: &Proof) -> Result<bool, NoMemory>
     requires proof { MayBeSaid (proof_value proof.now) }
-    ensures { IfOk result (λ yes. yes ≡ true → IsAccepted (soc_value soc.now) (limits_value limits.now) (proof_value proof.now)) }
+    ensures { IfOk result (λ yes. yes ≡ true → IsAccepted problem.now.soc problem.now.limits (proof_value proof.now)) }
 {
-    let mut room = ProofRoom::with_resolved(alloc, soc, limits, resolved, proof)?;
+    let mut room = ProofRoom::over(alloc, problem, proof)?;
     let accepted = check_proof(&mut room).is_ok();
     drop(room);
     Ok(accepted)
@@ -67,19 +51,14 @@ fn short_text(alloc: Global, proof: &Proof) -> Result<Option<Vec<u8>>, NoMemory>
 /// `nodes` nodes.
 fn text_of(
     alloc: Global,
-    soc: &Soc,
-    limits: &Limits,
-    resolved: &Resolved,
+    problem: &Problem<'_>,
     proof: &Proof,
     cycles: u64,
     nodes: u64,
 ) -> Result<Option<Vec<u8>>, NoMemory>
-    requires chip { IsSoundChip (soc_value soc.now) }
-    requires limits { IsSoundLimits (soc_value soc.now) (limits_value limits.now) }
-    requires resolved { IsResolved (soc_value soc.now) limits.now resolved.now }
     requires proof { IsReadable (proof_value proof.now) }
     requires some { 1 ≤ cycles }
-    ensures { IfOk result (λ text. IfSome text (λ t. IsProofText (soc_value soc.now) (limits_value limits.now) cycles nodes t.items)) }
+    ensures { IfOk result (λ text. IfSome text (λ t. IsProofText problem.now.soc problem.now.limits cycles nodes t.items)) }
 {
     if proof.claimed > cycles {
         return Ok(None);
@@ -87,7 +66,7 @@ fn text_of(
     if proof.nodes.len() as u64 > nodes {
         return Ok(None);
     }
-    if !is_accepted(alloc, soc, limits, resolved, proof)? {
+    if !is_accepted(alloc, problem, proof)? {
         return Ok(None);
     }
     short_text(alloc, proof)
@@ -97,23 +76,18 @@ fn text_of(
 /// most `nodes` nodes. It is judged as it is read again from its text.
 pub(crate) fn accepted_text(
     alloc: Global,
-    soc: &Soc,
-    limits: &Limits,
-    resolved: &Resolved,
+    problem: &Problem<'_>,
     found: &Proof,
     cycles: u64,
     nodes: u64,
 ) -> Result<Option<Vec<u8>>, NoMemory>
-    requires chip { IsSoundChip (soc_value soc.now) }
-    requires limits { IsSoundLimits (soc_value soc.now) (limits_value limits.now) }
-    requires resolved { IsResolved (soc_value soc.now) limits.now resolved.now }
     requires some { 1 ≤ cycles }
-    ensures { IfOk result (λ text. IfSome text (λ t. IsProofText (soc_value soc.now) (limits_value limits.now) cycles nodes t.items)) }
+    ensures { IfOk result (λ text. IfSome text (λ t. IsProofText problem.now.soc problem.now.limits cycles nodes t.items)) }
 {
     let written = print_proof(alloc, found)?;
     match read_again(alloc, written.as_slice())? {
         Some(proof) => {
-            let text = text_of(alloc, soc, limits, resolved, &proof, cycles, nodes);
+            let text = text_of(alloc, problem, &proof, cycles, nodes);
             // dropped by a call: the end of the scope would drop each of its parts, and be proved for each
             drop(proof);
             text

@@ -1,10 +1,5 @@
 //! Decides how a call ends before anything is written.
-ghost use Rattle.std.specs.Prelude.{◌≡◌, ◌<◌, ◌≤◌, map, string_bytes, IfOk, IfSome};
-ghost use Rattle.soc_model.specs.Chips.{soc_value};
-ghost use Rattle.soc_model.specs.SoundChips.{IsSoundChip};
-ghost use Rattle.plan_model.specs.SoundLimits.{IsSoundLimits};
-ghost use Rattle.plan_model.specs.Views.{limits_value, plan_value};
-ghost use Rattle.plan_model.specs.Rules.{live_ids};
+ghost use Rattle.std.specs.Prelude.{◌≡◌, ◌<◌, ◌≤◌, map, string_bytes, IfOk};
 ghost use Rattle.commands.specs.Commands.{Prove, command_of as asked_command};
 ghost use Rattle.commands.specs.Procedures.{asked};
 ghost use Rattle.commands.specs.Decides.{Follows, Decides};
@@ -15,41 +10,28 @@ ghost use Rattle.bound_prover.specs.Proved.{IsProofText};
 ghost use Rattle.bound_prover.specs.Requests.{procedure_of, IsQuiet};
 ghost use Rattle.bound_prover.specs.Reports.{MayReport, MayReportOf};
 
-use crate::proving::proved_with;
+use crate::proving::proved_text;
 use commands::{
     Accepted, Command, Status, Verdict, answered_with, bad_words, command_of, load_all,
 };
-use limits_text::resolved_of;
 use outside::{NoMemory, Shelf, Sink};
 use std::alloc::Global;
 
-/// The text of a proof of a bound, which claims at most the cycles of an accepted plan.
+/// The text of a proof of a bound, which claims at most the cycles of a plan that is accepted.
 fn text_of<T: Sink>(
     alloc: Global,
-    all: Accepted,
+    all: &Accepted,
     nodes: u64,
     progress: &mut T,
 ) -> Result<Vec<u8>, NoMemory>
-    requires sound { IsSoundChip (soc_value all.soc) }
-    requires limits { IsSoundLimits (soc_value all.soc) (limits_value all.limits) }
-    requires live { IfSome all.live (λ tests. tests ≡ live_ids (soc_value all.soc)) }
     requires some { 1 ≤ nodes }
-    ensures text { IfOk result (λ text. IsProofText (soc_value all.soc) (limits_value all.limits)
-        (plan_value all.plan).cycles nodes text.items) }
+    ensures text { IfOk result (λ text. IsProofText all.now.soc all.now.limits all.now.plan.cycles nodes text.items) }
     ensures faults_never_fall { T.faults progress.old ≤ T.faults progress.new }
     ensures quiet { nodes < REPORTED_FROM → progress.new ≡ progress.old }
     ensures reported { MayReport nodes (T.written progress.old) (T.written progress.new) }
 {
-    let Accepted {
-        soc,
-        limits,
-        plan,
-        live,
-    } = all;
-    let cycles = plan.cycles;
-    drop(plan);
-    let resolved = resolved_of(alloc, &soc, &limits, live)?;
-    proved_with(alloc, &soc, &limits, &resolved, cycles, nodes, progress)
+    let cycles = all.plan.cycles;
+    proved_text(alloc, &all.problem(), cycles, nodes, progress)
 }
 
 /// `prove SOC LIMITS PLAN NODES`: a proof of a bound of at most the cycles of a plan that is accepted.
@@ -74,7 +56,11 @@ fn decide_prove<H: Shelf, T: Sink>(
     ensures reported { MayReport nodes (T.written progress.old) (T.written progress.new) }
 {
     match load_all(alloc, soc, limits, plan, shelf) {
-        Ok(all) => answered_with(Status::Done, text_of(alloc, all, nodes, progress)),
+        Ok(all) => {
+            let text = text_of(alloc, &all, nodes, progress);
+            all.free();
+            answered_with(Status::Done, text)
+        }
         Err(verdict) => verdict,
     }
 }

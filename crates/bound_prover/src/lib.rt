@@ -11,5 +11,5 @@ mod progress;
 mod proving;
 mod top;
 
-pub use proving::{proved, proved_with};
+pub use proving::{proved, proved_text};
 pub use top::prove_bound;

@@ -1,10 +1,9 @@
 //! The text of a proof for a chip under limits, from a search that promises nothing.
-ghost use Rattle.std.specs.Prelude.{◌≡◌, ◌<◌, ◌≤◌, IfOk};
+ghost use Rattle.std.specs.Prelude.{◌≡◌, ◌<◌, ◌≤◌, ℕ, IfOk};
 ghost use Rattle.soc_model.specs.Chips.{soc_value};
 ghost use Rattle.soc_model.specs.SoundChips.{IsSoundChip};
 ghost use Rattle.plan_model.specs.SoundLimits.{IsSoundLimits};
 ghost use Rattle.plan_model.specs.Views.{limits_value};
-ghost use Rattle.live_tests.specs.Resolved.{IsResolved};
 ghost use Rattle.bound_prover.specs.declared.progress.TheConstants.{REPORTED_FROM};
 ghost use Rattle.bound_prover.specs.Proved.{IsProofText};
 ghost use Rattle.bound_prover.specs.Reports.{MayReport};
@@ -13,7 +12,7 @@ use crate::accepting::{accepted_text, nothing_text};
 use crate::choosing::better_of;
 use crate::progress::run_reported;
 use commands::line_room;
-use live_tests::Resolved;
+use live_tests::{Problem, Resolved};
 use outside::{NoMemory, Sink};
 use plan_model::Limits;
 use proof_model::Proof;
@@ -25,42 +24,31 @@ use std::alloc::Global;
 /// as many as it can show; and whether a search without them may show more. Nothing is known of it.
 fn searched_packed<T: Sink>(
     alloc: Global,
-    soc: &Soc,
-    limits: &Limits,
-    resolved: &Resolved,
+    problem: &Problem<'_>,
     cycles: u64,
     nodes: u64,
     progress: &mut T,
 ) -> Result<(Proof, bool), NoMemory>
-    requires chip { IsSoundChip (soc_value soc.now) }
-    requires limits { IsSoundLimits (soc_value soc.now) (limits_value limits.now) }
-    requires resolved { IsResolved (soc_value soc.now) limits.now resolved.now }
     ensures faults_never_fall { T.faults progress.old ≤ T.faults progress.new }
     ensures quiet { nodes < REPORTED_FROM → progress.new ≡ progress.old }
     ensures reported { MayReport nodes (T.written progress.old) (T.written progress.new) }
 {
     let mut line = line_room(alloc)?;
-    let mut search = Search::new(alloc, soc, limits, resolved, cycles, nodes, true)?;
+    let mut search = Search::new(alloc, problem, cycles, nodes, true)?;
     run_reported(&mut search, nodes, &mut line, progress);
     let is_open = search.found_pack() && search.claim() < cycles;
     let proof = search.proof(alloc)?;
     Ok((proof, is_open))
 }
 
-/// The same by a search without leaves Pack, which reports nothing.
+/// What a search without leaves Pack finds. It reports nothing.
 fn searched_plain(
     alloc: Global,
-    soc: &Soc,
-    limits: &Limits,
-    resolved: &Resolved,
+    problem: &Problem<'_>,
     cycles: u64,
     nodes: u64,
-) -> Result<Proof, NoMemory>
-    requires chip { IsSoundChip (soc_value soc.now) }
-    requires limits { IsSoundLimits (soc_value soc.now) (limits_value limits.now) }
-    requires resolved { IsResolved (soc_value soc.now) limits.now resolved.now }
-{
-    let mut search = Search::new(alloc, soc, limits, resolved, cycles, nodes, false)?;
+) -> Result<Proof, NoMemory> {
+    let mut search = Search::new(alloc, problem, cycles, nodes, false)?;
     search.go_on(nodes);
     search.proof(alloc)
 }
@@ -69,60 +57,56 @@ fn searched_plain(
 /// lists are found: each search can show what the other can't, and neither shows less with more nodes.
 fn searched<T: Sink>(
     alloc: Global,
-    soc: &Soc,
-    limits: &Limits,
-    resolved: &Resolved,
+    problem: &Problem<'_>,
     cycles: u64,
     nodes: u64,
     progress: &mut T,
 ) -> Result<Proof, NoMemory>
-    requires chip { IsSoundChip (soc_value soc.now) }
-    requires limits { IsSoundLimits (soc_value soc.now) (limits_value limits.now) }
-    requires resolved { IsResolved (soc_value soc.now) limits.now resolved.now }
     ensures faults_never_fall { T.faults progress.old ≤ T.faults progress.new }
     ensures quiet { nodes < REPORTED_FROM → progress.new ≡ progress.old }
     ensures reported { MayReport nodes (T.written progress.old) (T.written progress.new) }
 {
-    let (packed, is_open) = searched_packed(alloc, soc, limits, resolved, cycles, nodes, progress)?;
+    let (packed, is_open) = searched_packed(alloc, problem, cycles, nodes, progress)?;
     if !is_open {
         return Ok(packed);
     }
-    better_of(
-        alloc,
-        packed,
-        searched_plain(alloc, soc, limits, resolved, cycles, nodes),
-    )
+    better_of(alloc, packed, searched_plain(alloc, problem, cycles, nodes))
 }
 
-/// [`proved`], where the chip and its limits are resolved. `NoMemory` where there is none.
-pub fn proved_with<T: Sink>(
+/// The text of the proof that claims nothing, for a problem.
+fn nothing_for(alloc: Global, problem: &Problem<'_>) -> Result<Vec<u8>, NoMemory>
+    ensures { (cycles nodes : ℕ) → 1 ≤ nodes →
+        IfOk result (λ text. IsProofText problem.now.soc problem.now.limits cycles nodes text.items) }
+{
+    // opened, so that its limits are known to be sound
+    let _ = &problem.limits;
+    nothing_text(alloc)
+}
+
+/// [`proved`], for a problem.
+pub fn proved_text<T: Sink>(
     alloc: Global,
-    soc: &Soc,
-    limits: &Limits,
-    resolved: &Resolved,
+    problem: &Problem<'_>,
     cycles: u64,
     nodes: u64,
     progress: &mut T,
 ) -> Result<Vec<u8>, NoMemory>
-    requires chip { IsSoundChip (soc_value soc.now) }
-    requires limits { IsSoundLimits (soc_value soc.now) (limits_value limits.now) }
-    requires resolved { IsResolved (soc_value soc.now) limits.now resolved.now }
     requires some { 1 ≤ nodes }
-    ensures text { IfOk result (λ text. IsProofText (soc_value soc.now) (limits_value limits.now) cycles nodes text.items) }
+    ensures text { IfOk result (λ text. IsProofText problem.now.soc problem.now.limits cycles nodes text.items) }
     ensures faults_never_fall { T.faults progress.old ≤ T.faults progress.new }
     ensures quiet { nodes < REPORTED_FROM → progress.new ≡ progress.old }
     ensures reported { MayReport nodes (T.written progress.old) (T.written progress.new) }
 {
     if cycles == 0 {
-        return nothing_text(alloc);
+        return nothing_for(alloc, problem);
     }
-    let found = searched(alloc, soc, limits, resolved, cycles, nodes, progress)?;
-    let accepted = accepted_text(alloc, soc, limits, resolved, &found, cycles, nodes);
+    let found = searched(alloc, problem, cycles, nodes, progress)?;
+    let accepted = accepted_text(alloc, problem, &found, cycles, nodes);
     // dropped by a call: the end of the scope would drop each of its parts, and be proved for each
     drop(found);
     match accepted? {
         Some(text) => Ok(text),
-        None => nothing_text(alloc),
+        None => nothing_for(alloc, problem),
     }
 }
 
@@ -147,5 +131,6 @@ pub fn proved<T: Sink>(
     ensures reported { MayReport nodes (T.written progress.old) (T.written progress.new) }
 {
     let resolved = Resolved::new(alloc, soc, limits)?;
-    proved_with(alloc, soc, limits, &resolved, cycles, nodes, progress)
+    let problem = Problem::new(soc, limits, &resolved);
+    proved_text(alloc, &problem, cycles, nodes, progress)
 }

@@ -159,7 +159,7 @@ pub fn power_bound(soc: &Soc, limits: &Limits) -> u64
     bound_with(soc, limits, None)
 }
 
-/// The same value as that of `power_bound`, where the places of the profiles are at hand by the names of their tests; of
+/// What `power_bound` answers, where the places of the profiles are at hand by the names of their tests; of
 /// more than one of a test the first.
 pub fn power_bound_with(soc: &Soc, limits: &Limits, places: &IndexMap<TestId, usize>) -> u64
     requires sound { IsSoundChip (soc_value soc.now) }

@@ -84,7 +84,7 @@ pub fn pair_bound(soc: &Soc, place: usize, wires: u64) -> Option<u64>
     pair_bound_with(soc, place, parent(soc, place), wires)
 }
 
-/// The same value as that of `pair_bound`, where the place of the module's parent is at hand.
+/// What `pair_bound` answers, where the place of the module's parent is at hand.
 pub fn pair_bound_with(soc: &Soc, place: usize, parent: Option<usize>, wires: u64) -> Option<u64>
     requires sound { IsSoundChip (soc_value soc.now) }
     requires place { place < length (soc_value soc.now).modules }

@@ -1,6 +1,5 @@
 -- What a whole check tells, and that its room serves again.
-use Rattle.std.proofs.Common.{◌≡◌, ℕ, ◌+◌, ◌^◌, ◌≤◌, ◌<◌, Some, List, length, map, get_or, refl, sym, ap, ◌∙◌, subst, arith, inl, inr}
-use Rattle.std.specs.Prelude.{Bool, true, false, None, nat_lt, option_map, slice_get, if◌then◌else◌, Result, Ok, Err, IfErr, OnOk}
+use Rattle.std.proofs.Common.{◌≡◌, ℕ, ◌+◌, ◌^◌, ◌≤◌, ◌<◌, Some, List, length, map, get_or, refl, sym, ap, ◌∙◌, subst, arith, inl, inr, Bool, true, false, None, nat_lt, option_map, slice_get, if◌then◌else◌, Result, Ok, Err, IfErr, OnOk}
 use Rattle.std.proofs.lemmas.Bool.{cases_lt, ltb-false}
 use Rattle.std.proofs.lemmas.Option.{slice_get-map, slice_get_read, slice_get_within}
 use Rattle.soc_model.specs.Chips.{SocValue}
@@ -27,54 +26,58 @@ use Rattle.bus_proofs.specs.LeafAnswers.{HasLeafSpace}
 use Rattle.bus_proofs.specs.Walks.{FitsLeaves, IsChecked, named_in}
 use Rattle.bus_proofs.specs.ProofRooms.{IsProofRoom, RoomValue}
 use Rattle.bus_proofs.specs.Laws.{AcceptedProofsAreBounds}
-use Rattle.bus_proofs.proofs.RoomSteps.{AreWithin, same_case, same_room}
+use Rattle.bus_proofs.proofs.Trails.{AreWithin, same_case, same_room}
 
 -- ---- the lists
 
-pub bad_list : (soc : SocValue) (limits : LimitsValue) (p : ProofValue) (kept : ℕ) → KeepFirst soc limits p.lists kept → kept < length p.lists → IsProofFault soc limits p (BadList kept)
-bad_list soc limits p kept (inl all) less = absurd (omega (arith, all.0, less))
-bad_list soc limits p kept (inr bad) less = bad
+module _ (soc : SocValue) (limits : LimitsValue) where
+  pub bad_list : (p : ProofValue) (kept : ℕ) → KeepFirst soc limits p.lists kept → kept < length p.lists → IsProofFault soc limits p (BadList kept)
+  bad_list p kept (inl all) less = absurd (omega (arith, all.0, less))
+  bad_list p kept (inr bad) less = bad
 
-pub all_kept : (soc : SocValue) (limits : LimitsValue) (lists : List ListValue) (kept : ℕ) → KeepFirst soc limits lists kept → length lists ≤ kept → (kept ≡ length lists) × AreKept soc limits lists
-all_kept soc limits lists kept (inl all) most = all
-all_kept soc limits lists kept (inr bad) most = absurd (omega (arith, slice_get_within lists kept bad.0 bad.1.there, most))
+  pub all_kept : (lists : List ListValue) (kept : ℕ) → KeepFirst soc limits lists kept → length lists ≤ kept → (kept ≡ length lists) × AreKept soc limits lists
+  all_kept lists kept (inl all) most = all
+  all_kept lists kept (inr bad) most = absurd (omega (arith, slice_get_within lists kept bad.0 bad.1.there, most))
 
 -- ---- the nodes
 
-pub checked_accepted : (g : Basis) (r : Result (Unit {0}) ProofFault) → AreKept (chip_of g) (limits_of g) (lists_of g) → MayBeSaid (proof_of g) →
-    ((t : CaseTree) → nodes_of t ≡ (proof_of g).nodes → IsChecked g (all_cases (chip_of g) (limits_of g) t) r) → OnOk r (IsAccepted (chip_of g) (limits_of g) (proof_of g))
-checked_accepted g (Ok u) kept said h = record { lists = kept; tree = said.one.0; nodes = said.one.1; enough = h said.one.0 said.one.1 }
-checked_accepted g (Err f) kept said h = tt
+module _ (g : Basis) where
+  pub checked_accepted : (r : Result (Unit {0}) ProofFault) → AreKept (chip_of g) (limits_of g) (lists_of g) → MayBeSaid (proof_of g) →
+      ((t : CaseTree) → nodes_of t ≡ (proof_of g).nodes → IsChecked g (all_cases (chip_of g) (limits_of g) t) r) →
+      OnOk r (IsAccepted (chip_of g) (limits_of g) (proof_of g))
+  checked_accepted (Ok u) kept said h = record { lists = kept; tree = said.one.0; nodes = said.one.1; enough = h said.one.0 said.one.1 }
+  checked_accepted (Err f) kept said h = tt
 
-pub checked_faulty : (g : Basis) (r : Result (Unit {0}) ProofFault) → AreKept (chip_of g) (limits_of g) (lists_of g) → MayBeSaid (proof_of g) →
-    ((t : CaseTree) → nodes_of t ≡ (proof_of g).nodes → IsChecked g (all_cases (chip_of g) (limits_of g) t) r) → IfErr r (IsProofFault (chip_of g) (limits_of g) (proof_of g))
-checked_faulty g (Ok u) kept said h = tt
-checked_faulty g (Err (BadList p)) kept said h = absurd (h said.one.0 said.one.1)
-checked_faulty g (Err (BadNode p)) kept said h = record { lists = kept; tree = said.one.0; nodes = said.one.1; has = h said.one.0 said.one.1 }
-checked_faulty g (Err (Less p c s)) kept said h = record { lists = kept; tree = said.one.0; nodes = said.one.1; has = h said.one.0 said.one.1 }
+  pub checked_faulty : (r : Result (Unit {0}) ProofFault) → AreKept (chip_of g) (limits_of g) (lists_of g) → MayBeSaid (proof_of g) →
+      ((t : CaseTree) → nodes_of t ≡ (proof_of g).nodes → IsChecked g (all_cases (chip_of g) (limits_of g) t) r) →
+      IfErr r (IsProofFault (chip_of g) (limits_of g) (proof_of g))
+  checked_faulty (Ok u) kept said h = tt
+  checked_faulty (Err (BadList p)) kept said h = absurd (h said.one.0 said.one.1)
+  checked_faulty (Err (BadNode p)) kept said h = record { lists = kept; tree = said.one.0; nodes = said.one.1; has = h said.one.0 said.one.1 }
+  checked_faulty (Err (Less p c s)) kept said h = record { lists = kept; tree = said.one.0; nodes = said.one.1; has = h said.one.0 said.one.1 }
 
--- ---- the room
+  -- ---- the room
 
--- in the case of the root again
-pub room_back : (g : Basis) (a b : CaseRoom) (leaf leaf' : LeafRoom) (turns turns' : List OpenSplit) → IsProofRoom g a leaf turns → IsSame a b → FitsLeaves g leaf' → length turns' ≡ length turns →
-    IsProofRoom g b leaf' turns'
-room_back g a b leaf leaf' turns turns' room same fits long = record {
-  basis_is = room.basis_is;
-  said = room.said;
-  room = same_room g a b same room.room;
-  root = same_case a b root_case same room.root;
-  leaves = fits;
-  turns_fit = omega (arith, long, room.turns_fit);
-}
+  -- in the case of the root again
+  pub room_back : {a b : CaseRoom} {leaf : LeafRoom} (leaf' : LeafRoom) {turns : List OpenSplit} (turns' : List OpenSplit) → IsProofRoom g a leaf turns → IsSame a b →
+      FitsLeaves g leaf' → length turns' ≡ length turns → IsProofRoom g b leaf' turns'
+  room_back leaf' turns' room same fits long = record {
+    basis_is = room.basis_is;
+    said = room.said;
+    room = same_room same room.room;
+    root = same_case same room.root;
+    leaves = fits;
+    turns_fit = omega (arith, long, room.turns_fit);
+  }
 
 -- ---- how many lists or modules a leaf names
 
-pub uses_more : (nodes : List Node) (place most next : ℕ) (node : Node) →
-    ((q : ℕ) (w : LeafValue) → q < place → slice_get (map node_value nodes) q ≡ Some (OfLeaf w) → named_in w ≤ most) → place < length nodes → node ≡ get_or nodes place node →
-    ((w : LeafValue) → node_value node ≡ OfLeaf w → named_in w ≤ next) → most ≤ next →
-    (q : ℕ) (w : LeafValue) → q < place + 1 → slice_get (map node_value nodes) q ≡ Some (OfLeaf w) → named_in w ≤ next
-uses_more nodes place most next node before within is here less q w q_less at = elim (cases_lt q place) [
-  | inl earlier ↦ (let few : named_in w ≤ most = before q w earlier at in omega (arith, few, less))
+pub uses_more : (nodes : List Node) (place most next : ℕ) {node : Node} →
+    ((q : ℕ) (w : LeafValue) → q < place → slice_get (map node_value nodes) q ≡ Some (OfLeaf w) → named_in w ≤ most) → place < length nodes →
+    node ≡ get_or nodes place node → ((w : LeafValue) → node_value node ≡ OfLeaf w → named_in w ≤ next) → most ≤ next → (q : ℕ) (w : LeafValue) → q < place + 1 →
+    slice_get (map node_value nodes) q ≡ Some (OfLeaf w) → named_in w ≤ next
+uses_more nodes place most next {node} before within is here less q w q_less at = elim (cases_lt q place) [
+  | inl earlier ↦ (omega (arith, before q w earlier at, less))
   | inr last ↦ this (let same : q ≡ place = omega (arith, q_less, last) in same)
 ]
   where
@@ -116,7 +119,7 @@ new_room g soc limits p room leaf turns uses basis chip_is limits_is proof_is sa
   };
   root = root;
   leaves = λ place w at.
-      let lists : named_in w ≤ uses = each place w (ap (λ (q : ProofValue). slice_get q.nodes place) (sym proof_is) ∙ at) in
+      let lists = each place w (ap (λ (q : ProofValue). slice_get q.nodes place) (sym proof_is) ∙ at) in
       record { few = omega (arith, lists, few); places = omega (arith, lists, places); space = space };
   turns_fit = omega (arith, fit, ap (λ (q : ProofValue). length q.nodes) proof_is);
 }
@@ -127,9 +130,9 @@ new_room g soc limits p room leaf turns uses basis chip_is limits_is proof_is sa
 abbrev pub room_value : Basis → RoomValue
 room_value g = record { chip = chip_of g; limits = limits_of g; proof = proof_of g }
 
-pub room_bound : (g : Basis) (room : RoomValue) (r : Result (Unit {0}) ProofFault) → room_value g ≡ room → AcceptedProofsAreBounds → IsBasis g →
+pub room_bound : {g : Basis} {room : RoomValue} (r : Result (Unit {0}) ProofFault) → room_value g ≡ room → AcceptedProofsAreBounds → IsBasis g →
     OnOk r (IsAccepted (chip_of g) (limits_of g) (proof_of g)) → OnOk r (IsBound room.chip room.limits room.proof.claimed)
-room_bound g room r view law basis accepted = subst (λ (v : RoomValue). OnOk r (IsBound v.chip v.limits v.proof.claimed)) view (go r accepted)
+room_bound {g} r view law basis accepted = subst (λ (v : RoomValue). OnOk r (IsBound v.chip v.limits v.proof.claimed)) view (go r accepted)
   where
     go : (r : Result (Unit {0}) ProofFault) → OnOk r (IsAccepted (chip_of g) (limits_of g) (proof_of g)) → OnOk r (IsBound (chip_of g) (limits_of g) (proof_of g).claimed)
     go (Ok u) a = law (chip_of g) (limits_of g) (proof_of g) basis.sound basis.limits a

@@ -1,7 +1,5 @@
 -- What was taken away and noted, and that there is room to note each.
-use Rattle.std.proofs.Common.{◌≡◌, ℕ, zero, suc, ◌+◌, ◌≤◌, ◌<◌, Bool, true, false, cond, List, [], ◌∷◌, ◌++◌, length, take, drop, set, refl, sym, ap, ◌∙◌, append_assoc, arith}
-use Rattle.std.specs.Prelude.{slice_set, vec_capacity}
-use Rattle.std.specs.List.{count_by}
+use Rattle.std.proofs.Common.{◌≡◌, ℕ, zero, suc, ◌≤◌, ◌<◌, Bool, true, false, cond, List, [], ◌∷◌, ◌++◌, length, take, drop, set, refl, sym, ap, ◌∙◌, append_assoc, arith, slice_set, vec_capacity, count_by}
 use Rattle.std.proofs.lemmas.List.{append-nil, set-set, set-get_or, length-set, length-append}
 use Rattle.std.proofs.lemmas.List.Sums.{sum_by-set, get_or-le-sum_by}
 use Rattle.bus_proofs.specs.declared.ranks.Ranks.{Ranks}
@@ -11,7 +9,7 @@ use Rattle.bus_proofs.specs.Takings.{bit_at, given_back, IsAfter, HasSpace, IsRe
 
 given_back-append : (bits : List Bool) (xs ys : List ℕ) → given_back bits (xs ++ ys) ≡ given_back (given_back bits ys) xs
 given_back-append bits [] ys = refl
-given_back-append bits (x ∷ xs) ys = ap (λ (b : List Bool). slice_set b x true) (given_back-append bits xs ys)
+given_back-append bits (x ∷ xs) ys = ap (λ b. slice_set b x true) (given_back-append bits xs ys)
 
 take_set : (xs : List Bool) (n i : ℕ) (x : Bool) → take n (set xs i x) ≡ set (take n xs) i x
 take_set [] zero i x = refl
@@ -22,11 +20,11 @@ take_set (y ∷ xs) zero i x = zero_case i
     zero_case zero = refl
     zero_case (suc i) = refl
 take_set (y ∷ xs) (suc n) zero x = refl
-take_set (y ∷ xs) (suc n) (suc i) x = ap (λ (zs : List Bool). y ∷ zs) (take_set xs n i x)
+take_set (y ∷ xs) (suc n) (suc i) x = ap (λ zs. y ∷ zs) (take_set xs n i x)
 
 take_given : (bits : List Bool) (n : ℕ) (xs : List ℕ) → take n (given_back bits xs) ≡ given_back (take n bits) xs
 take_given bits n [] = refl
-take_given bits n (x ∷ xs) = take_set (given_back bits xs) n x true ∙ ap (λ (b : List Bool). slice_set b x true) (take_given bits n xs)
+take_given bits n (x ∷ xs) = take_set (given_back bits xs) n x true ∙ ap (λ b. slice_set b x true) (take_given bits n xs)
 
 -- the front of a front
 take_take : (xs : List Bool) (m n : ℕ) → m ≤ n → take m (take n xs) ≡ take m xs
@@ -37,11 +35,11 @@ take_take [] (suc m) (suc n) h = refl
 take_take (x ∷ xs) zero zero h = refl
 take_take (x ∷ xs) zero (suc n) h = refl
 take_take (x ∷ xs) (suc m) zero h = absurd (omega arith)
-take_take (x ∷ xs) (suc m) (suc n) h = ap (λ (zs : List Bool). x ∷ zs) (take_take xs m n (omega arith))
+take_take (x ∷ xs) (suc m) (suc n) h = ap (λ zs. x ∷ zs) (take_take xs m n (omega arith))
 
 take_whole : (xs : List Bool) → take (length xs) xs ≡ xs
 take_whole [] = refl
-take_whole (x ∷ xs) = ap (λ (zs : List Bool). x ∷ zs) (take_whole xs)
+take_whole (x ∷ xs) = ap (λ zs. x ∷ zs) (take_whole xs)
 
 pub after_none : (r : Ranks) → IsAfter r r
 after_none r = record {
@@ -54,16 +52,14 @@ after_none r = record {
   trail_room = refl;
 }
 
-pub after_then : (a b c : Ranks) → IsAfter a b → IsAfter b c → IsAfter a c
-after_then a b c x y = record {
+pub after_then : {a b c : Ranks} → IsAfter a b → IsAfter b c → IsAfter a c
+after_then {a} {b} {c} x y = record {
   taken = x.taken ++ y.taken;
-  trail = y.trail ∙ ap (λ (t : List ℕ). t ++ y.taken) x.trail ∙ append_assoc a.trail.items x.taken y.taken;
+  trail = y.trail ∙ ap (λ t. t ++ y.taken) x.trail ∙ append_assoc a.trail.items x.taken y.taken;
   longer = omega (arith, x.longer, y.longer);
   front =
-      let back : given_back c.may.items (x.taken ++ y.taken) ≡ given_back (given_back c.may.items y.taken) x.taken = given_back-append c.may.items x.taken y.taken in
-      let inner : take (length b.may.items) (given_back (given_back c.may.items y.taken) x.taken) ≡ given_back b.may.items x.taken =
-      take_given (given_back c.may.items y.taken) (length b.may.items) x.taken ∙ ap (λ (l : List Bool). given_back l x.taken) y.front in
-      ap (take (length a.may.items)) back
+      let inner = take_given (given_back c.may.items y.taken) (length b.may.items) x.taken ∙ ap (λ l. given_back l x.taken) y.front in
+      ap (take (length a.may.items)) (given_back-append c.may.items x.taken y.taken)
       ∙ sym (take_take (given_back (given_back c.may.items y.taken) x.taken) (length a.may.items) (length b.may.items) x.longer)
       ∙ ap (take (length a.may.items)) inner ∙ x.front;
   most = y.most ∙ x.most;
@@ -73,12 +69,13 @@ after_then a b c x y = record {
 
 -- ---- one place is taken away
 
--- where nothing is left, nothing changes
-pub gone_already : (bits : List Bool) (at : ℕ) → bit_at bits at ≡ false → slice_set bits at false ≡ bits
-gone_already bits at gone = ap (slice_set bits at) (sym gone) ∙ set-get_or bits at false
+module _ (bits : List Bool) (at : ℕ) where
+  -- where nothing is left, nothing changes
+  pub gone_already : bit_at bits at ≡ false → slice_set bits at false ≡ bits
+  gone_already gone = ap (slice_set bits at) (sym gone) ∙ set-get_or bits at false
 
-put_back : (bits : List Bool) (at : ℕ) → bit_at bits at ≡ true → slice_set (slice_set bits at false) at true ≡ bits
-put_back bits at left = set-set bits at false true ∙ ap (slice_set bits at) (sym left) ∙ set-get_or bits at false
+  put_back : bit_at bits at ≡ true → slice_set (slice_set bits at false) at true ≡ bits
+  put_back left = set-set bits at false true ∙ ap (slice_set bits at) (sym left) ∙ set-get_or bits at false
 
 abbrev one_if : Bool → ℕ
 one_if b = cond b 1 0
@@ -90,43 +87,37 @@ counts false e = absurd (no e)
     no : false ≡ true → ⊥
     no h = cc
 
-pub space_to_note : (r : Ranks) (at : ℕ) → HasSpace r → at < length r.may.items → bit_at r.may.items at ≡ true → length r.trail.items < vec_capacity r.trail
-space_to_note r at space within left =
-    let one : one_if (bit_at r.may.items at) ≡ 1 = counts (bit_at r.may.items at) left in
-    let some : one_if (bit_at r.may.items at) ≤ count_by (λ b. b) r.may.items = get_or-le-sum_by one_if r.may.items at false within in
-    omega (arith, one, some, space.noted, space.known, space.trail_room)
+pub space_to_note : {r : Ranks} (at : ℕ) → HasSpace r → at < length r.may.items → bit_at r.may.items at ≡ true → length r.trail.items < vec_capacity r.trail
+space_to_note {r} at space within left =
+    let one = counts (bit_at r.may.items at) left in
+    omega (arith, one, get_or-le-sum_by one_if r.may.items at false within, space.noted, space.known, space.trail_room)
 
-pub space_after : (r s : Ranks) (at : ℕ) → HasSpace r → at < length r.may.items → bit_at r.may.items at ≡ true →
-    s.may.items ≡ slice_set r.may.items at false → s.trail.items ≡ r.trail.items ++ at ∷ [] →
-    s.most ≡ r.most → vec_capacity s.may ≡ vec_capacity r.may → vec_capacity s.trail ≡ vec_capacity r.trail → HasSpace s
-space_after r s at space within left may trail most room trail_room =
-    let one : one_if (bit_at r.may.items at) ≡ 1 = counts (bit_at r.may.items at) left in
-    let sums : count_by (λ b. b) (slice_set r.may.items at false) + one_if (bit_at r.may.items at) ≡ count_by (λ b. b) r.may.items + 0 =
-    sum_by-set one_if r.may.items at false false within in
-    let sum : count_by (λ b. b) s.may.items ≡ count_by (λ b. b) (slice_set r.may.items at false) = ap (count_by (λ b. b)) may in
-    let long : length s.may.items ≡ length r.may.items = ap length may ∙ length-set r.may.items at false in
-    let longer : length s.trail.items ≡ length r.trail.items + 1 = ap length trail ∙ length-append r.trail.items (at ∷ []) in
-    record {
-      known = omega (arith, long, most, space.known);
-      noted = omega (arith, one, sums, sum, long, longer, space.noted);
-      room = omega (arith, room, most, space.room);
-      trail_room = omega (arith, trail_room, most, space.trail_room);
-    }
+module _ (r s : Ranks) (at : ℕ) where
+  pub space_after : HasSpace r → at < length r.may.items → bit_at r.may.items at ≡ true → s.may.items ≡ slice_set r.may.items at false →
+      s.trail.items ≡ r.trail.items ++ at ∷ [] → s.most ≡ r.most → vec_capacity s.may ≡ vec_capacity r.may → vec_capacity s.trail ≡ vec_capacity r.trail → HasSpace s
+  space_after space within left may trail most room trail_room =
+      let one = counts (bit_at r.may.items at) left in
+      let sums = sum_by-set one_if r.may.items at false false within in
+      let long = ap length may ∙ length-set r.may.items at false in
+      record {
+        known = omega (arith, long, most, space.known);
+        noted = omega (arith, one, sums, ap (count_by (λ b. b)) may, long, ap length trail ∙ length-append r.trail.items (at ∷ []), space.noted);
+        room = omega (arith, room, most, space.room);
+        trail_room = omega (arith, trail_room, most, space.trail_room);
+      }
 
-pub after_put : (r s : Ranks) (at : ℕ) → bit_at r.may.items at ≡ true →
-    s.may.items ≡ slice_set r.may.items at false → s.trail.items ≡ r.trail.items ++ at ∷ [] →
-    s.most ≡ r.most → vec_capacity s.may ≡ vec_capacity r.may → vec_capacity s.trail ≡ vec_capacity r.trail → IsAfter r s
-after_put r s at left may trail most room trail_room =
-    let long : length s.may.items ≡ length r.may.items = ap length may ∙ length-set r.may.items at false in
-    record {
-      taken = at ∷ [];
-      trail = trail;
-      longer = omega (arith, long);
-      front = ap (λ (b : List Bool). take (length r.may.items) (slice_set b at true)) may ∙ ap (take (length r.may.items)) (put_back r.may.items at left) ∙ take_whole r.may.items;
-      most = most;
-      room = room;
-      trail_room = trail_room;
-    }
+  pub after_put : bit_at r.may.items at ≡ true → s.may.items ≡ slice_set r.may.items at false → s.trail.items ≡ r.trail.items ++ at ∷ [] → s.most ≡ r.most →
+      vec_capacity s.may ≡ vec_capacity r.may → vec_capacity s.trail ≡ vec_capacity r.trail → IsAfter r s
+  after_put left may trail most room trail_room =
+      record {
+        taken = at ∷ [];
+        trail = trail;
+        longer = omega (arith, ap length may ∙ length-set r.may.items at false);
+        front = ap (λ b. take (length r.may.items) (slice_set b at true)) may ∙ ap (take (length r.may.items)) (put_back r.may.items at left) ∙ take_whole r.may.items;
+        most = most;
+        room = room;
+        trail_room = trail_room;
+      }
 
 -- ---- the last place is given back
 
@@ -136,7 +127,7 @@ split_last [] ys zs c e less = (e, refl)
 split_last (x ∷ xs) ys [] c e less = absurd (omega arith)
 split_last (x ∷ xs) ys (z ∷ zs) c e less =
     let rest = split_last xs ys zs c (tails e) (omega arith) in
-    (rest.0, ap (λ (l : List ℕ). z ∷ l) rest.1 ∙ ap (λ (y : ℕ). y ∷ (xs ++ drop (length xs) zs)) (sym (heads e)))
+    (rest.0, ap (λ l. z ∷ l) rest.1 ∙ ap (λ y. y ∷ (xs ++ drop (length xs) zs)) (sym (heads e)))
   where
     heads : x ∷ (xs ++ ys) ≡ z ∷ (zs ++ c ∷ []) → x ≡ z
     heads h = cc
@@ -144,19 +135,18 @@ split_last (x ∷ xs) ys (z ∷ zs) c e less =
     tails : x ∷ (xs ++ ys) ≡ z ∷ (zs ++ c ∷ []) → xs ++ ys ≡ zs ++ c ∷ []
     tails h = cc
 
-pub after_popped : (before r s : Ranks) (at : ℕ) → IsAfter before r → length before.trail.items < length r.trail.items →
-    r.trail.items ≡ s.trail.items ++ at ∷ [] → s.may.items ≡ slice_set r.may.items at true →
-    s.most ≡ r.most → vec_capacity s.may ≡ vec_capacity r.may → vec_capacity s.trail ≡ vec_capacity r.trail → IsAfter before s
-after_popped before r s at after more popped back most room trail_room =
-    let long : length r.trail.items ≡ length s.trail.items + 1 = ap length popped ∙ length-append s.trail.items (at ∷ []) in
-    let same : length s.may.items ≡ length r.may.items = ap length back ∙ length-set r.may.items at true in
+pub after_popped : {before r : Ranks} (s : Ranks) (at : ℕ) → IsAfter before r → length before.trail.items < length r.trail.items →
+    r.trail.items ≡ s.trail.items ++ at ∷ [] → s.may.items ≡ slice_set r.may.items at true → s.most ≡ r.most → vec_capacity s.may ≡ vec_capacity r.may →
+    vec_capacity s.trail ≡ vec_capacity r.trail → IsAfter before s
+after_popped {before} {r} s at after more popped back most room trail_room =
+    let long = ap length popped ∙ length-append s.trail.items (at ∷ []) in
     let parts = split_last before.trail.items after.taken s.trail.items at (sym after.trail ∙ popped) (omega (arith, long, more)) in
     record {
       taken = drop (length before.trail.items) s.trail.items;
       trail = parts.1;
-      longer = omega (arith, same, after.longer);
+      longer = omega (arith, ap length back ∙ length-set r.may.items at true, after.longer);
       front = ap (take (length before.may.items))
-          (ap (λ (b : List Bool). given_back b (drop (length before.trail.items) s.trail.items)) back
+          (ap (λ b. given_back b (drop (length before.trail.items) s.trail.items)) back
           ∙ sym (given_back-append r.may.items (drop (length before.trail.items) s.trail.items) (at ∷ []))
           ∙ ap (given_back r.may.items) (sym parts.0)) ∙ after.front;
       most = most ∙ after.most;
@@ -167,34 +157,32 @@ after_popped before r s at after more popped back most room trail_room =
 gone : (xs ys cs : List ℕ) → ys ≡ xs ++ cs → length ys ≡ length xs → cs ≡ []
 gone xs ys [] e long = refl
 gone xs ys (c ∷ cs) e long =
-    let more : length ys ≡ length xs + length (c ∷ cs) = ap length e ∙ length-append xs (c ∷ cs) in
-    absurd (omega (arith, more, long))
+    absurd (omega (arith, ap length e ∙ length-append xs (c ∷ cs), long))
 
 -- where all are given back, the ranks that came after are left out
-pub restored : (before r s : Ranks) → IsAfter before r → HasSpace before → length r.trail.items ≡ length before.trail.items →
-    s.may.items ≡ take (length before.may.items) r.may.items → s.trail.items ≡ r.trail.items →
-    s.most ≡ r.most → vec_capacity s.may ≡ vec_capacity r.may → vec_capacity s.trail ≡ vec_capacity r.trail → IsRestored before s
-restored before r s after space long cut trail most room trail_room =
-    let none : after.taken ≡ [] = gone before.trail.items r.trail.items after.taken after.trail long in
-    let same : s.may.items ≡ before.may.items = cut ∙ ap (λ (xs : List ℕ). take (length before.may.items) (given_back r.may.items xs)) (sym none) ∙ after.front in
-    let known : length s.may.items ≡ length before.may.items = ap length same in
-    let left : count_by (λ b. b) s.may.items ≡ count_by (λ b. b) before.may.items = ap (count_by (λ b. b)) same in
-    let noted : length s.trail.items ≡ length r.trail.items = ap length trail in
+pub restored : {before r : Ranks} (s : Ranks) → IsAfter before r → HasSpace before → length r.trail.items ≡ length before.trail.items →
+    s.may.items ≡ take (length before.may.items) r.may.items → s.trail.items ≡ r.trail.items → s.most ≡ r.most → vec_capacity s.may ≡ vec_capacity r.may →
+    vec_capacity s.trail ≡ vec_capacity r.trail → IsRestored before s
+restored {before} {r} s after space long cut trail most room trail_room =
+    let none = gone before.trail.items r.trail.items after.taken after.trail long in
+    let same = cut ∙ ap (λ xs. take (length before.may.items) (given_back r.may.items xs)) (sym none) ∙ after.front in
+    let known = ap length same in
+    let noted = ap length trail in
     record {
       may = same;
       after_it = record {
         taken = [];
-        trail = trail ∙ after.trail ∙ ap (λ (xs : List ℕ). before.trail.items ++ xs) none;
+        trail = trail ∙ after.trail ∙ ap (λ xs. before.trail.items ++ xs) none;
         longer = omega (arith, known);
         front = ap (take (length before.may.items)) same ∙ take_whole before.may.items;
         most = most ∙ after.most;
         room = room ∙ after.room;
         trail_room = trail_room ∙ after.trail_room;
       };
-      trail = trail ∙ after.trail ∙ ap (λ (xs : List ℕ). before.trail.items ++ xs) none ∙ append-nil before.trail.items;
+      trail = trail ∙ after.trail ∙ ap (λ xs. before.trail.items ++ xs) none ∙ append-nil before.trail.items;
       space = record {
         known = omega (arith, known, most, after.most, space.known);
-        noted = omega (arith, known, left, long, noted, space.noted);
+        noted = omega (arith, known, ap (count_by (λ b. b)) same, long, noted, space.noted);
         room = omega (arith, room, most, after.most, after.room, space.room);
         trail_room = omega (arith, trail_room, most, after.most, after.trail_room, space.trail_room);
       };

@@ -1,24 +1,31 @@
--- Changes of intervals: what came later, and that there is room to note each.
-use Rattle.std.proofs.Common.{◌≡◌, ◌≢◌, ◌⊎◌, inl, inr, ℕ, zero, suc, ◌+◌, ◌≤◌, ◌<◌, min, List, [], ◌∷◌, ◌++◌, length, get_or, map, take, drop, refl, sym, ap, ◌∙◌, append_assoc, subst, arith}
-use Rattle.std.specs.Prelude.{slice_set, vec_capacity}
-use Rattle.std.specs.List.{All, sum_by}
-use Rattle.std.proofs.lemmas.Bool.{cases_eq}
+-- Changes of intervals, room to note each, and how a room of a case is gone back.
+use Rattle.std.proofs.Common.{◌≡◌, ◌≢◌, ◌⊎◌, inl, inr, ℕ, zero, suc, ◌+◌, ◌≤◌, ◌<◌, min, List, [], ◌∷◌, ◌++◌, length, get_or, map, take, drop, refl, sym, ap, ◌∙◌, append_assoc, subst, arith, ◌*◌, Bool, true, false, slice_set, vec_capacity, nat_eq, if◌then◌else◌, All, sum_by}
+use Rattle.std.proofs.lemmas.Bool.{cases_eq, eq-eqb}
 use Rattle.std.proofs.lemmas.List.{append-nil, set-set, set-get_or, length-append, get_or_default}
 use Rattle.std.proofs.lemmas.List.Sums.{get_or-le-sum_by}
 use Rattle.std.proofs.lemmas.List.Edits.{map_over_more}
-use Rattle.bus_proofs.specs.declared.widths.Interval.{Interval}
 use Rattle.bus_proofs.specs.declared.widths.IntervalChange.{IntervalChange}
 use Rattle.bus_proofs.specs.declared.widths.IntervalChange.TheVariants.{Was}
 use Rattle.bus_proofs.specs.declared.widths.Widths.{Widths}
-use Rattle.bus_proofs.specs.Cases.{Case, IsEmpty, least_wires, interval, interval_of, at_most, at_least, tightened_below, tightened_by}
-use Rattle.bus_proofs.proofs.Intervals.{front_length}
+use Rattle.bus_proofs.specs.Cases.{Interval, Case, IsEmpty, least_wires, interval, interval_of, at_most, at_least, tightened_below, tightened_by, IsWide, extended, known_ranks, narrow, spare, tightened, wide, with_rank}
+use Rattle.bus_proofs.proofs.Intervals.{front_length, tight_length}
 use Rattle.bus_proofs.specs.Trails.{undone, undone_once, IsPart, IsLater, IsFew, IsRoomy, IsBack, HasGap, HasNoGap, changes_left, tight}
+use Rattle.std.proofs.lemmas.List.Elements.{All-append, All-cons, All-drop, All-head, All-tail, All-take}
+use Rattle.bus_proofs.specs.declared.basis.Basis.{Basis}
+use Rattle.bus_proofs.specs.declared.case.CaseRoom.{CaseRoom}
+use Rattle.bus_proofs.specs.CaseRooms.{HasCase, IsCaseOf, IsFurther, IsSame}
+use Rattle.bus_proofs.specs.Bits.{HasBits}
+use Rattle.bus_proofs.specs.Bases.{limits_of}
+use Rattle.bus_proofs.specs.Walks.{IsRoomFor, IsWideNow}
+use Rattle.bus_proofs.proofs.Takings.{after_none, after_then}
+
+-- ==== changes of intervals: what came later, and that there is room to note each
 
 -- ---- what is undone
 
 undone-append : (is : List Interval) (cs ds : List IntervalChange) → undone is (cs ++ ds) ≡ undone (undone is ds) cs
 undone-append is [] ds = refl
-undone-append is (c ∷ cs) ds = ap (λ (js : List Interval). undone_once js c) (undone-append is cs ds)
+undone-append is (c ∷ cs) ds = ap (λ js. undone_once js c) (undone-append is cs ds)
 
 pub later_none : (v : Widths) → IsLater v v
 later_none v = record {
@@ -31,11 +38,11 @@ later_none v = record {
   trail_room = refl;
 }
 
-pub later_then : (a b c : Widths) → IsLater a b → IsLater b c → IsLater a c
-later_then a b c x y = record {
+pub later_then : {a b c : Widths} → IsLater a b → IsLater b c → IsLater a c
+later_then {a} {c} x y = record {
   changes = x.changes ++ y.changes;
-  trail = y.trail ∙ ap (λ (t : List IntervalChange). t ++ y.changes) x.trail ∙ append_assoc a.trail.items x.changes y.changes;
-  undone_is = undone-append c.intervals.items x.changes y.changes ∙ ap (λ (is : List Interval). undone is x.changes) y.undone_is ∙ x.undone_is;
+  trail = y.trail ∙ ap (λ t. t ++ y.changes) x.trail ∙ append_assoc a.trail.items x.changes y.changes;
+  undone_is = undone-append c.intervals.items x.changes y.changes ∙ ap (λ is. undone is x.changes) y.undone_is ∙ x.undone_is;
   wires = y.wires ∙ x.wires;
   most = y.most ∙ x.most;
   room = y.room ∙ x.room;
@@ -44,47 +51,48 @@ later_then a b c x y = record {
 
 -- ---- another interval for one rank
 
--- the interval that it has
-pub set_kept : (is : List Interval) (rank : ℕ) (i : Interval) → interval_of is rank ≡ i → slice_set is rank i ≡ is
-set_kept is rank i e = ap (slice_set is rank) (sym e) ∙ set-get_or is rank (interval 0 0)
+module _ (is : List Interval) (rank : ℕ) (i : Interval) where
+  -- the interval that it has
+  pub set_kept : interval_of is rank ≡ i → slice_set is rank i ≡ is
+  set_kept e = ap (slice_set is rank) (sym e) ∙ set-get_or is rank (interval 0 0)
 
--- it is put back
-pub put_back : (is : List Interval) (rank : ℕ) (i : Interval) → slice_set (slice_set is rank i) rank (interval_of is rank) ≡ is
-put_back is rank i = set-set is rank i (interval_of is rank) ∙ set-get_or is rank (interval 0 0)
+  -- it is put back
+  pub put_back : slice_set (slice_set is rank i) rank (interval_of is rank) ≡ is
+  put_back = set-set is rank i (interval_of is rank) ∙ set-get_or is rank (interval 0 0)
 
--- what one of two bounds tells
-pub lower_low : (old new : Interval) → old.low < new.low → old ≡ new → ⊥
-lower_low old new less same =
-    let e : old.low ≡ new.low = ap (λ (i : Interval). i.low) same in
-    omega arith
+module _ (old : Interval) {new : Interval} where
+  -- what one of two bounds tells
+  pub lower_low : old.low < new.low → old ≡ new → ⊥
+  lower_low less same =
+      let e = ap (λ (i : Interval). i.low) same in
+      omega arith
 
-pub lower_high : (old new : Interval) → new.high < old.high → old ≡ new → ⊥
-lower_high old new less same =
-    let e : old.high ≡ new.high = ap (λ (i : Interval). i.high) same in
-    omega arith
+  pub lower_high : new.high < old.high → old ≡ new → ⊥
+  lower_high less same =
+      let e = ap (λ (i : Interval). i.high) same in
+      omega arith
 
-pub no_less : (old new : Interval) → IsPart new old → new.low ≤ old.low → old.high ≤ new.high → old ≡ new
-no_less old new part low high =
-    let l : old.low ≡ new.low = omega (arith, part.low) in
-    let h : old.high ≡ new.high = omega (arith, part.high) in
-    ap (λ (n : ℕ). interval n old.high) l ∙ ap (interval new.low) h
+  pub no_less : IsPart new old → new.low ≤ old.low → old.high ≤ new.high → old ≡ new
+  no_less part low high =
+      let l : old.low ≡ new.low = omega (arith, part.low) in
+      let h : old.high ≡ new.high = omega (arith, part.high) in
+      ap (λ n. interval n old.high) l ∙ ap (interval new.low) h
 
--- a narrower interval has fewer changes left
-pub fewer_left : (old new : Interval) → IsFew new → old.low ≤ new.low → new.high ≤ old.high → (old ≡ new → ⊥) → changes_left new < changes_left old
-fewer_left old new few low high other = fewer (cases_eq old.low new.low) (cases_eq old.high new.high)
-  where
-    fewer : (old.low ≡ new.low) ⊎ (old.low ≢ new.low) → (old.high ≡ new.high) ⊎ (old.high ≢ new.high) → changes_left new < changes_left old
-    fewer (inl l) (inl h) = absurd (other (ap (λ (n : ℕ). interval n old.high) l ∙ ap (interval new.low) h))
-    fewer (inl l) (inr h) = omega (arith, few.low, few.high)
-    fewer (inr l) h = omega (arith, few.low, few.high)
+  -- a narrower interval has fewer changes left
+  pub fewer_left : IsFew new → old.low ≤ new.low → new.high ≤ old.high → (old ≡ new → ⊥) → changes_left new < changes_left old
+  fewer_left few low high other = fewer (cases_eq old.low new.low) (cases_eq old.high new.high)
+    where
+      fewer : (old.low ≡ new.low) ⊎ (old.low ≢ new.low) → (old.high ≡ new.high) ⊎ (old.high ≢ new.high) → changes_left new < changes_left old
+      fewer (inl l) (inl h) = absurd (other (ap (λ n. interval n old.high) l ∙ ap (interval new.low) h))
+      fewer (inl l) (inr h) = omega (arith, few.low, few.high)
+      fewer (inr l) h = omega (arith, few.low, few.high)
 
 -- so there is room to note it
-pub room_to_note : (v : Widths) (rank : ℕ) (i : Interval) → IsRoomy v → rank < length v.intervals.items → IsFew i →
-    (interval_of v.intervals.items rank).low ≤ i.low → i.high ≤ (interval_of v.intervals.items rank).high → (interval_of v.intervals.items rank ≡ i → ⊥) →
-    length v.trail.items < vec_capacity v.trail
-room_to_note v rank i roomy within few low high other =
-    let left : changes_left i < changes_left (interval_of v.intervals.items rank) = fewer_left (interval_of v.intervals.items rank) i few low high other in
-    let some : changes_left (interval_of v.intervals.items rank) ≤ sum_by changes_left v.intervals.items = get_or-le-sum_by changes_left v.intervals.items rank (interval 0 0) within in
+pub room_to_note : {v : Widths} (rank : ℕ) {i : Interval} → IsRoomy v → rank < length v.intervals.items → IsFew i → (interval_of v.intervals.items rank).low ≤ i.low →
+    i.high ≤ (interval_of v.intervals.items rank).high → (interval_of v.intervals.items rank ≡ i → ⊥) → length v.trail.items < vec_capacity v.trail
+room_to_note {v} rank {i} roomy within few low high other =
+    let left = fewer_left (interval_of v.intervals.items rank) few low high other in
+    let some = get_or-le-sum_by changes_left v.intervals.items rank (interval 0 0) within in
     omega (arith, roomy.noted, roomy.known, roomy.trail_room)
 
 pub later_put : (v w : Widths) (rank : ℕ) (i : Interval) →
@@ -93,7 +101,7 @@ pub later_put : (v w : Widths) (rank : ℕ) (i : Interval) →
 later_put v w rank i is trail wires most room trail_room = record {
   changes = Was rank (interval_of v.intervals.items rank) ∷ [];
   trail = trail;
-  undone_is = ap (λ (js : List Interval). slice_set js rank (interval_of v.intervals.items rank)) is ∙ put_back v.intervals.items rank i;
+  undone_is = ap (λ js. slice_set js rank (interval_of v.intervals.items rank)) is ∙ put_back v.intervals.items rank i;
   wires = wires;
   most = most;
   room = room;
@@ -102,28 +110,30 @@ later_put v w rank i is trail wires most room trail_room = record {
 
 -- ---- parts of intervals
 
-pub most_part : (xs : List Interval) (rank width : ℕ) (old new : Interval) → All IsFew xs → rank < length xs → old ≡ interval_of xs rank → new ≡ at_most width old → IsPart new (interval_of xs rank)
-most_part xs rank width old new few within is next =
-    let all : IsFew (interval_of xs rank) = few rank (interval 0 0) within in
-    subst (λ (i : Interval). IsPart i (interval_of xs rank)) (sym (next ∙ ap (at_most width) is)) (record {
-      low = omega arith;
-      high = omega arith;
-      few = record { low = all.low; high = omega (arith, all.high) };
-    })
+module _ (xs : List Interval) (rank width : ℕ) {old new : Interval} where
+  pub most_part : All IsFew xs → rank < length xs → old ≡ interval_of xs rank → new ≡ at_most width old → IsPart new (interval_of xs rank)
+  most_part few within is next =
+      let all = few rank (interval 0 0) within in
+      subst (λ i. IsPart i (interval_of xs rank)) (sym (next ∙ ap (at_most width) is)) (record {
+        low = omega arith;
+        high = omega arith;
+        few = record { low = all.low; high = omega (arith, all.high) };
+      })
 
-pub least_part : (xs : List Interval) (rank width : ℕ) (old new : Interval) → width ≤ 256 → All IsFew xs → rank < length xs → old ≡ interval_of xs rank → new ≡ at_least width old → IsPart new (interval_of xs rank)
-least_part xs rank width old new small few within is next =
-    let all : IsFew (interval_of xs rank) = few rank (interval 0 0) within in
-    subst (λ (i : Interval). IsPart i (interval_of xs rank)) (sym (next ∙ ap (at_least width) is)) (record {
-      low = omega arith;
-      high = omega arith;
-      few = record { low = omega (arith, all.low); high = all.high };
-    })
+  pub least_part : width ≤ 256 → All IsFew xs → rank < length xs → old ≡ interval_of xs rank → new ≡ at_least width old → IsPart new (interval_of xs rank)
+  least_part small few within is next =
+      let all = few rank (interval 0 0) within in
+      subst (λ i. IsPart i (interval_of xs rank)) (sym (next ∙ ap (at_least width) is)) (record {
+        low = omega arith;
+        high = omega arith;
+        few = record { low = omega (arith, all.low); high = all.high };
+      })
 
-pub tight_part : (xs : List Interval) (rank more above : ℕ) (old new : Interval) → All IsFew xs → rank < length xs → old ≡ interval_of xs rank → new ≡ tight more above old → IsPart new (interval_of xs rank)
-tight_part xs rank more above old new few within is next =
-    let all : IsFew (interval_of xs rank) = few rank (interval 0 0) within in
-    subst (λ (i : Interval). IsPart i (interval_of xs rank)) (sym (next ∙ ap (tight more above) is)) (record {
+pub tight_part : (xs : List Interval) (rank more above : ℕ) {old new : Interval} → All IsFew xs → rank < length xs → old ≡ interval_of xs rank →
+    new ≡ tight more above old → IsPart new (interval_of xs rank)
+tight_part xs rank more above few within is next =
+    let all = few rank (interval 0 0) within in
+    subst (λ i. IsPart i (interval_of xs rank)) (sym (next ∙ ap (tight more above) is)) (record {
       low = omega arith;
       high = omega arith;
       few = record { low = all.low; high = omega (arith, all.high) };
@@ -131,61 +141,61 @@ tight_part xs rank more above old new few within is next =
 
 -- ---- item by item
 
--- what is read is what the definitions read
-pub item_is : (xs : List Interval) (k : ℕ) (x : Interval) → k < length xs → x ≡ get_or xs k x → x ≡ interval_of xs k
-item_is xs k x within e = e ∙ get_or_default xs k x (interval 0 0) within
+module _ (xs : List Interval) (k : ℕ) where
+  -- what is read is what the definitions read
+  pub item_is : {x : Interval} → k < length xs → x ≡ get_or xs k x → x ≡ interval_of xs k
+  item_is {x} within e = e ∙ get_or_default xs k x (interval 0 0) within
 
-pub few_at : (xs : List Interval) (k : ℕ) → All IsFew xs → k < length xs → IsFew (interval_of xs k)
-few_at xs k few within = few k (interval 0 0) within
+  pub few_at : All IsFew xs → k < length xs → IsFew (interval_of xs k)
+  few_at few within = few k (interval 0 0) within
 
-pub map_next : (g : Interval → Interval) (xs ys : List Interval) (k n : ℕ) → k < length xs → n ≡ suc k → ys ≡ slice_set xs k (g (interval_of xs k)) →
-    take n ys ++ map g (drop n ys) ≡ take k xs ++ map g (drop k xs)
-map_next g xs ys k n within next is = rw next (rw is (step xs k within))
-  where
-    step : (xs : List Interval) (k : ℕ) → k < length xs → take (suc k) (slice_set xs k (g (interval_of xs k))) ++ map g (drop (suc k) (slice_set xs k (g (interval_of xs k)))) ≡ take k xs ++ map g (drop k xs)
-    step [] k h = absurd (omega arith)
-    step (x ∷ xs) zero h = refl
-    step (x ∷ xs) (suc k) h = ap (λ (zs : List Interval). x ∷ zs) (step xs k (omega arith))
+module _ (g : Interval → Interval) where
+  pub map_next : (xs : List Interval) {ys : List Interval} {k n : ℕ} → k < length xs → n ≡ suc k → ys ≡ slice_set xs k (g (interval_of xs k)) →
+      take n ys ++ map g (drop n ys) ≡ take k xs ++ map g (drop k xs)
+  map_next xs {k} within next is = rw next (rw is (step xs k within))
+    where
+      step : (xs : List Interval) (k : ℕ) → k < length xs → take (suc k) (slice_set xs k (g (interval_of xs k))) ++ map g (drop (suc k) (slice_set xs k (g (interval_of xs k)))) ≡ take k xs ++ map g (drop k xs)
+      step [] k h = absurd (omega arith)
+      step (x ∷ xs) zero h = refl
+      step (x ∷ xs) (suc k) h = ap (λ zs. x ∷ zs) (step xs k (omega arith))
 
-pub map_all : (g : Interval → Interval) (xs : List Interval) (n : ℕ) → length xs ≤ n → take n xs ++ map g (drop n xs) ≡ xs
-map_all g [] zero h = refl
-map_all g [] (suc n) h = refl
-map_all g (x ∷ xs) zero h = absurd (omega arith)
-map_all g (x ∷ xs) (suc n) h = ap (λ (zs : List Interval). x ∷ zs) (map_all g xs n (omega arith))
+  pub map_all : (xs : List Interval) (n : ℕ) → length xs ≤ n → take n xs ++ map g (drop n xs) ≡ xs
+  map_all [] zero h = refl
+  map_all [] (suc n) h = refl
+  map_all (x ∷ xs) zero h = absurd (omega arith)
+  map_all (x ∷ xs) (suc n) h = ap (λ zs. x ∷ zs) (map_all xs n (omega arith))
 
--- each of the first items has gone over
-pub front_next : (g : Interval → Interval) (xs ys : List Interval) (k : ℕ) → k < length xs → ys ≡ map g (take k xs) ++ drop k xs →
-    slice_set ys k (g (interval_of ys k)) ≡ map g (take (k + 1) xs) ++ drop (k + 1) xs
-front_next g xs ys k within is =
-    let long : length ys ≡ length xs = ap length is ∙ front_length g xs k in
-    let read : interval_of ys k ≡ get_or ys k (interval_of ys k) = get_or_default ys k (interval 0 0) (interval_of ys k) (omega (arith, long)) in
-    map_over_more g xs ys k (interval_of ys k) within is read
+  -- each of the first items has gone over
+  pub front_next : (xs : List Interval) {ys : List Interval} (k : ℕ) → k < length xs → ys ≡ map g (take k xs) ++ drop k xs →
+      slice_set ys k (g (interval_of ys k)) ≡ map g (take (k + 1) xs) ++ drop (k + 1) xs
+  front_next xs {ys} k within is =
+      let read = get_or_default ys k (interval 0 0) (interval_of ys k) (omega (arith, ap length is ∙ front_length g xs k)) in
+      map_over_more g xs ys k (interval_of ys k) within is read
 
-pub tight_next : (more above high : ℕ) (xs ys : List Interval) (k n : ℕ) → k < length xs → n ≡ suc k → ys ≡ slice_set xs k (tight more above (interval_of xs k)) →
-    high ≡ (tight more above (interval_of xs k)).high →
-    take n ys ++ tightened_below more high (drop n ys) ≡ take k xs ++ tightened_below more above (drop k xs)
-tight_next more above high xs ys k n within next is high_is = rw high_is (rw next (rw is (step xs k within)))
-  where
-    step : (xs : List Interval) (k : ℕ) → k < length xs →
-        take (suc k) (slice_set xs k (tight more above (interval_of xs k))) ++ tightened_below more (tight more above (interval_of xs k)).high (drop (suc k) (slice_set xs k (tight more above (interval_of xs k))))
-        ≡ take k xs ++ tightened_below more above (drop k xs)
-    step [] k h = absurd (omega arith)
-    step (x ∷ xs) zero h = refl
-    step (x ∷ xs) (suc k) h = ap (λ (zs : List Interval). x ∷ zs) (step xs k (omega arith))
+module _ (more above : ℕ) where
+  pub tight_next : {high : ℕ} (xs : List Interval) {ys : List Interval} {k n : ℕ} → k < length xs → n ≡ suc k → ys ≡ slice_set xs k (tight more above (interval_of xs k)) →
+      high ≡ (tight more above (interval_of xs k)).high → take n ys ++ tightened_below more high (drop n ys) ≡ take k xs ++ tightened_below more above (drop k xs)
+  tight_next xs {k} within next is high_is = rw high_is (rw next (rw is (step xs k within)))
+    where
+      step : (xs : List Interval) (k : ℕ) → k < length xs →
+          take (suc k) (slice_set xs k (tight more above (interval_of xs k))) ++ tightened_below more (tight more above (interval_of xs k)).high (drop (suc k) (slice_set xs k (tight more above (interval_of xs k))))
+          ≡ take k xs ++ tightened_below more above (drop k xs)
+      step [] k h = absurd (omega arith)
+      step (x ∷ xs) zero h = refl
+      step (x ∷ xs) (suc k) h = ap (λ zs. x ∷ zs) (step xs k (omega arith))
 
-pub tight_all : (more above : ℕ) (xs : List Interval) (n : ℕ) → length xs ≤ n → take n xs ++ tightened_below more above (drop n xs) ≡ xs
-tight_all more above [] zero h = refl
-tight_all more above [] (suc n) h = refl
-tight_all more above (x ∷ xs) zero h = absurd (omega arith)
-tight_all more above (x ∷ xs) (suc n) h = ap (λ (zs : List Interval). x ∷ zs) (tight_all more above xs n (omega arith))
+  pub tight_all : (xs : List Interval) (n : ℕ) → length xs ≤ n → take n xs ++ tightened_below more above (drop n xs) ≡ xs
+  tight_all [] zero h = refl
+  tight_all [] (suc n) h = refl
+  tight_all (x ∷ xs) zero h = absurd (omega arith)
+  tight_all (x ∷ xs) (suc n) h = ap (λ zs. x ∷ zs) (tight_all xs n (omega arith))
 
 -- no rank is before the first one
 pub tight_first : (more : ℕ) (xs : List Interval) → All IsFew xs → tightened_below more 256 xs ≡ tightened_by more xs
 tight_first more [] few = refl
 tight_first more (i ∷ is) few =
-    let first : IsFew i = few 0 i (omega arith) in
-    let same : min (min i.high (i.low + more)) 256 ≡ min (min i.high (i.low + more)) i.high = omega (arith, first.high) in
-    ap (λ (high : ℕ). interval i.low high ∷ tightened_below more high is) same
+    let same : min (min i.high (i.low + more)) 256 ≡ min (min i.high (i.low + more)) i.high = omega (arith, (few 0 i (omega arith)).high) in
+    ap (λ high. interval i.low high ∷ tightened_below more high is) same
 
 -- ---- the last change is taken back
 
@@ -195,7 +205,7 @@ split_last [] ys zs c e less = (e, refl)
 split_last (x ∷ xs) ys [] c e less = absurd (omega arith)
 split_last (x ∷ xs) ys (z ∷ zs) c e less =
     let rest = split_last xs ys zs c (tails e) (omega arith) in
-    (rest.0, ap (λ (l : List IntervalChange). z ∷ l) rest.1 ∙ ap (λ (y : IntervalChange). y ∷ (xs ++ drop (length xs) zs)) (sym (heads e)))
+    (rest.0, ap (λ l. z ∷ l) rest.1 ∙ ap (λ y. y ∷ (xs ++ drop (length xs) zs)) (sym (heads e)))
   where
     heads : x ∷ (xs ++ ys) ≡ z ∷ (zs ++ c ∷ []) → x ≡ z
     heads h = cc
@@ -203,17 +213,17 @@ split_last (x ∷ xs) ys (z ∷ zs) c e less =
     tails : x ∷ (xs ++ ys) ≡ z ∷ (zs ++ c ∷ []) → xs ++ ys ≡ zs ++ c ∷ []
     tails h = cc
 
-pub later_popped : (before v w : Widths) (c : IntervalChange) → IsLater before v → length before.trail.items < length v.trail.items →
-    v.trail.items ≡ w.trail.items ++ c ∷ [] → w.intervals.items ≡ undone_once v.intervals.items c →
-    w.wires ≡ v.wires → w.most ≡ v.most → vec_capacity w.intervals ≡ vec_capacity v.intervals → vec_capacity w.trail ≡ vec_capacity v.trail → IsLater before w
-later_popped before v w c later more popped undone' wires most room trail_room =
-    let long : length v.trail.items ≡ length w.trail.items + 1 = ap length popped ∙ length-append w.trail.items (c ∷ []) in
+pub later_popped : {before v : Widths} (w : Widths) (c : IntervalChange) → IsLater before v → length before.trail.items < length v.trail.items →
+    v.trail.items ≡ w.trail.items ++ c ∷ [] → w.intervals.items ≡ undone_once v.intervals.items c → w.wires ≡ v.wires → w.most ≡ v.most →
+    vec_capacity w.intervals ≡ vec_capacity v.intervals → vec_capacity w.trail ≡ vec_capacity v.trail → IsLater before w
+later_popped {before} {v} w c later more popped undone' wires most room trail_room =
+    let long = ap length popped ∙ length-append w.trail.items (c ∷ []) in
     let parts = split_last before.trail.items later.changes w.trail.items c (sym later.trail ∙ popped) (omega (arith, long, more)) in
     record {
       changes = drop (length before.trail.items) w.trail.items;
       trail = parts.1;
       undone_is =
-          ap (λ (is : List Interval). undone is (drop (length before.trail.items) w.trail.items)) undone'
+          ap (λ is. undone is (drop (length before.trail.items) w.trail.items)) undone'
           ∙ sym (undone-append v.intervals.items (drop (length before.trail.items) w.trail.items) (c ∷ []))
           ∙ ap (undone v.intervals.items) (sym parts.0) ∙ later.undone_is;
       wires = wires ∙ later.wires;
@@ -222,28 +232,26 @@ later_popped before v w c later more popped undone' wires most room trail_room =
       trail_room = trail_room ∙ later.trail_room;
     }
 
-gone : (xs ys cs : List IntervalChange) → ys ≡ xs ++ cs → length ys ≡ length xs → cs ≡ []
-gone xs ys [] e long = refl
-gone xs ys (c ∷ cs) e long =
-    let more : length ys ≡ length xs + length (c ∷ cs) = ap length e ∙ length-append xs (c ∷ cs) in
-    absurd (omega (arith, more, long))
+gone : (xs : List IntervalChange) {ys : List IntervalChange} (cs : List IntervalChange) → ys ≡ xs ++ cs → length ys ≡ length xs → cs ≡ []
+gone xs [] e long = refl
+gone xs {ys} (c ∷ cs) e long =
+    absurd (omega (arith, ap length e ∙ length-append xs (c ∷ cs), long))
 
-pub back_here : (before v : Widths) → IsLater before v → IsRoomy before → length v.trail.items ≡ length before.trail.items → IsBack before v
-back_here before v later roomy long =
-    let none : later.changes ≡ [] = gone before.trail.items v.trail.items later.changes later.trail long in
-    let same : v.intervals.items ≡ before.intervals.items = ap (undone v.intervals.items) (sym none) ∙ later.undone_is in
-    let known : length v.intervals.items ≡ length before.intervals.items = ap length same in
-    let left : sum_by changes_left v.intervals.items ≡ sum_by changes_left before.intervals.items = ap (sum_by changes_left) same in
+pub back_here : {before v : Widths} → IsLater before v → IsRoomy before → length v.trail.items ≡ length before.trail.items → IsBack before v
+back_here {before} {v} later roomy long =
+    let none = gone before.trail.items later.changes later.trail long in
+    let same = ap (undone v.intervals.items) (sym none) ∙ later.undone_is in
+    let known = ap length same in
     record {
       intervals = same;
       later = later;
-      trail = later.trail ∙ ap (λ (cs : List IntervalChange). before.trail.items ++ cs) none ∙ append-nil before.trail.items;
+      trail = later.trail ∙ ap (λ cs. before.trail.items ++ cs) none ∙ append-nil before.trail.items;
       roomy = record {
         wires = omega (arith, later.wires, roomy.wires);
         ranks = omega (arith, later.most, roomy.ranks);
         few = subst (All IsFew) (sym same) roomy.few;
         known = omega (arith, known, later.most, roomy.known);
-        noted = omega (arith, known, left, long, roomy.noted);
+        noted = omega (arith, known, ap (sum_by changes_left) same, long, roomy.noted);
         room = omega (arith, later.room, later.most, roomy.room);
         trail_room = omega (arith, later.trail_room, later.most, roomy.trail_room);
       };
@@ -251,27 +259,180 @@ back_here before v later roomy long =
 
 -- ---- empty cases
 
-pub no_gap_more : (xs : List Interval) (n : ℕ) (i : Interval) → i ≡ interval_of xs n → i.low ≤ i.high → HasNoGap xs n → HasNoGap xs (n + 1)
-no_gap_more xs n i is fine before k less = by (cases_eq k n)
+module _ (xs : List Interval) (n : ℕ) {i : Interval} where
+  pub no_gap_more : i ≡ interval_of xs n → i.low ≤ i.high → HasNoGap xs n → HasNoGap xs (n + 1)
+  no_gap_more is fine before k less = by (cases_eq k n)
+    where
+      by : (k ≡ n) ⊎ (k ≢ n) → (interval_of xs k).low ≤ (interval_of xs k).high
+      by (inl same) = subst (λ (j : Interval). j.low ≤ j.high) (is ∙ ap (interval_of xs) (sym same)) fine
+      by (inr other) = before k (omega (arith, less, other))
+
+  pub gap_at : n < length xs → i ≡ interval_of xs n → i.high < i.low → HasGap xs
+  gap_at within is none = (n, within, subst (λ (j : Interval). j.high < j.low) is none)
+
+module _ (w : ℕ) {xs : List Interval} (c : Case) (is : c.intervals ≡ xs) where
+  pub empty_by_gap : HasGap xs → IsEmpty w c
+  empty_by_gap gap = inr (subst HasGap (sym is) gap)
+
+  pub empty_by_sum : w < least_wires xs → IsEmpty w c
+  empty_by_sum more = inl (subst (λ js. w < least_wires js) (sym is) more)
+
+  pub not_empty : least_wires xs ≤ w → HasNoGap xs (length xs) → IsEmpty w c → ⊥
+  not_empty fits fine (inl more) = omega (arith, ap least_wires is, fits, more)
+  not_empty fits fine (inr gap) = no (subst HasGap is gap)
+    where
+      no : HasGap xs → ⊥
+      no g = omega (arith, fine g.0 g.1, g.2)
+
+-- ==== how the room of a case stays that of its chip and wires, step by step, and where it is gone back
+
+-- ---- changes one after another
+
+pub further_none : (a : CaseRoom) → IsFurther a a
+further_none a = record { widths = later_none a.widths; ranks = after_none a.ranks; modules = refl }
+
+pub further_then : {a b c : CaseRoom} → IsFurther a b → IsFurther b c → IsFurther a c
+further_then x y = record {
+  widths = later_then x.widths y.widths;
+  ranks = after_then x.ranks y.ranks;
+  modules = y.modules ∙ x.modules;
+}
+
+pub same_case : {a b : CaseRoom} {c : Case} → IsSame a b → IsCaseOf a c → IsCaseOf b c
+same_case {a} {b} {c} s is = record {
+  intervals = s.widths.intervals ∙ is.intervals;
+  bits = subst (λ n. HasBits n b.ranks.may.items c) (sym s.modules) (subst (λ l. HasBits a.modules l c) (sym s.ranks.may) is.bits);
+}
+
+-- no interval goes beyond the wires
+abbrev pub AreWithin : (w : ℕ) → List Interval → Type 0
+AreWithin w is = All (λ (i : Interval). i.high ≤ w) is
+
+module _ {g : Basis} {a b : CaseRoom} where
+  pub same_room : IsSame a b → IsRoomFor g a → IsRoomFor g b
+  same_room s x = record {
+    has = record {
+      roomy = s.widths.roomy;
+      space = s.ranks.space;
+      modules = omega (arith, s.modules, x.has.modules);
+      most = s.ranks.after_it.most ∙ x.has.most ∙ ap (λ k. (k + 1) * a.modules) (sym s.widths.later.most) ∙ ap (λ n. (b.widths.most + 1) * n) (sym s.modules);
+    };
+    of = record {
+      modules = s.modules ∙ x.of.modules;
+      wires = s.widths.later.wires ∙ x.of.wires;
+      within = subst (AreWithin (limits_of g).wires) (sym s.widths.intervals) x.of.within;
+    };
+    most = s.widths.later.most ∙ x.most;
+  }
+
+  -- a room after a change has another case
+  pub room_next : {c d : Case} → IsRoomFor g a → HasCase b → IsFurther a b → IsCaseOf a c → IsCaseOf b d →
+      (AreWithin (limits_of g).wires c.intervals → AreWithin (limits_of g).wires d.intervals) → IsRoomFor g b
+  room_next x has further is next goes = record {
+    has = has;
+    of = record {
+      modules = further.modules ∙ x.of.modules;
+      wires = further.widths.wires ∙ x.of.wires;
+      within = subst (AreWithin (limits_of g).wires) (sym next.intervals) (goes (subst (AreWithin (limits_of g).wires) is.intervals x.of.within));
+    };
+    most = further.widths.most ∙ x.most;
+  }
+
+-- ---- intervals stay within the wires
+
+module _ (w more : ℕ) where
+  tight_below_within : (above : ℕ) (is : List Interval) → AreWithin w is → AreWithin w (tightened_below more above is)
+  tight_below_within above [] all = all
+  tight_below_within above (i ∷ is) all =
+      let first = All-head (λ (i : Interval). i.high ≤ w) i is all in
+      All-cons (λ (i : Interval). i.high ≤ w) (interval i.low (min (min i.high (i.low + more)) above)) (tightened_below more (min (min i.high (i.low + more)) above) is)
+      (omega (arith, first)) (tight_below_within (min (min i.high (i.low + more)) above) is (All-tail (λ (i : Interval). i.high ≤ w) i is all))
+
+  pub tight_within : (is : List Interval) → AreWithin w is → AreWithin w (tightened_by more is)
+  tight_within [] all = all
+  tight_within (i ∷ is) all = tight_below_within i.high (i ∷ is) all
+
+map_within : (w : ℕ) (f : Interval → Interval) → ((i : Interval) → (f i).high ≤ i.high) → (is : List Interval) → AreWithin w is → AreWithin w (map f is)
+map_within w f less [] all = all
+map_within w f less (i ∷ is) all =
+    let first = All-head (λ (i : Interval). i.high ≤ w) i is all in
+    All-cons (λ (i : Interval). i.high ≤ w) (f i) (map f is) (omega (arith, first, less i)) (map_within w f less is (All-tail (λ (i : Interval). i.high ≤ w) i is all))
+
+module _ (width : ℕ) (i : Interval) where
+  most_less : (at_most width i).high ≤ i.high
+  most_less = omega arith
+
+  least_less : (at_least width i).high ≤ i.high
+  least_less = omega arith
+
+module _ (w rank width : ℕ) (c : Case) (all : AreWithin w c.intervals) where
+  pub narrow_within : AreWithin w (narrow c rank width).intervals
+  narrow_within =
+      All-append (λ (i : Interval). i.high ≤ w) (take rank c.intervals) (map (at_most width) (drop rank c.intervals)) (All-take (λ (i : Interval). i.high ≤ w) rank c.intervals all)
+      (map_within w (at_most width) (most_less width) (drop rank c.intervals) (All-drop (λ (i : Interval). i.high ≤ w) rank c.intervals all))
+
+  pub wide_within : AreWithin w (wide c rank width).intervals
+  wide_within =
+      All-append (λ (i : Interval). i.high ≤ w) (map (at_least (width + 1)) (take (rank + 1) c.intervals)) (drop (rank + 1) c.intervals)
+      (map_within w (at_least (width + 1)) (least_less (width + 1)) (take (rank + 1) c.intervals) (All-take (λ (i : Interval). i.high ≤ w) (rank + 1) c.intervals all))
+      (All-drop (λ (i : Interval). i.high ≤ w) (rank + 1) c.intervals all)
+
+extended_within : (w : ℕ) (c : Case) → AreWithin w c.intervals → AreWithin w (extended w c).intervals
+extended_within w c all =
+    All-append (λ (i : Interval). i.high ≤ w) c.intervals (interval 0 w ∷ []) all
+    (All-cons (λ (i : Interval). i.high ≤ w) (interval 0 w) [] (omega arith) (λ k d less. absurd (omega (arith, less))))
+
+pub tightened_within : (w v : ℕ) (c : Case) → AreWithin w c.intervals → AreWithin w (tightened v c).intervals
+tightened_within w v c all = tight_within w (spare v c.intervals) c.intervals all
+
+pub with_rank_within : (w : ℕ) (c : Case) (rank : ℕ) → AreWithin w c.intervals → AreWithin w (with_rank w c rank).intervals
+with_rank_within w c rank all = by (nat_eq rank (known_ranks c))
   where
-    by : (k ≡ n) ⊎ (k ≢ n) → (interval_of xs k).low ≤ (interval_of xs k).high
-    by (inl same) = subst (λ (j : Interval). j.low ≤ j.high) (is ∙ ap (interval_of xs) (sym same)) fine
-    by (inr other) = before k (omega (arith, less, other))
+    by : (b : Bool) → AreWithin w (let d : Case = if b then tightened w (extended w c) else c in d.intervals)
+    by true = tightened_within w w (extended w c) (extended_within w c all)
+    by false = all
 
-pub gap_at : (xs : List Interval) (n : ℕ) (i : Interval) → n < length xs → i ≡ interval_of xs n → i.high < i.low → HasGap xs
-gap_at xs n i within is none = (n, within, subst (λ (j : Interval). j.high < j.low) is none)
+-- ---- the case that has a rank
 
-pub empty_by_gap : (w : ℕ) (xs : List Interval) (c : Case) → c.intervals ≡ xs → HasGap xs → IsEmpty w c
-empty_by_gap w xs c is gap = inr (subst HasGap (sym is) gap)
+-- the next one
+pub known_next : {a b d : CaseRoom} {c : Case} (rank : ℕ) → IsCaseOf a c → length a.widths.intervals.items ≤ rank → rank ≤ length a.widths.intervals.items →
+    IsFurther a b → IsCaseOf d (tightened b.widths.wires (extended a.widths.wires c)) → IsCaseOf d (with_rank a.widths.wires c rank)
+known_next {a} {d} {c} rank is least most further next =
+    let same : rank ≡ known_ranks c = omega (arith, ap length is.intervals, least, most) in
+    rw (eq-eqb rank (known_ranks c) same) (subst (λ w. IsCaseOf d (tightened w (extended a.widths.wires c))) further.widths.wires next)
 
-pub empty_by_sum : (w : ℕ) (xs : List Interval) (c : Case) → c.intervals ≡ xs → w < least_wires xs → IsEmpty w c
-empty_by_sum w xs c is more = inl (subst (λ (js : List Interval). w < least_wires js) (sym is) more)
+-- it is known then
+pub next_below : {a d : CaseRoom} {c : Case} (v w rank : ℕ) → IsCaseOf a c → rank ≤ length a.widths.intervals.items → IsCaseOf d (tightened v (extended w c)) →
+    rank < length d.widths.intervals.items
+next_below {a} {d} {c} v w rank is most next =
+    let kept = tight_length (spare v (c.intervals ++ interval 0 w ∷ [])) (c.intervals ++ interval 0 w ∷ []) in
+    omega (arith, ap length is.intervals, length-append c.intervals (interval 0 w ∷ []), kept, ap length next.intervals, most)
 
-pub not_empty : (w : ℕ) (xs : List Interval) (c : Case) → c.intervals ≡ xs → least_wires xs ≤ w → HasNoGap xs (length xs) → IsEmpty w c → ⊥
-not_empty w xs c is fits fine (inl more) =
-    let same : least_wires c.intervals ≡ least_wires xs = ap least_wires is in
-    omega (arith, same, fits, more)
-not_empty w xs c is fits fine (inr gap) = no (subst HasGap is gap)
-  where
-    no : HasGap xs → ⊥
-    no g = omega (arith, fine g.0 g.1, g.2)
+-- ---- the rule of a width
+
+interval_is : {room : CaseRoom} {d : Case} (rank : ℕ) {i : Interval} → IsCaseOf room d → i ≡ interval_of room.widths.intervals.items rank →
+    i ≡ interval_of d.intervals rank
+interval_is rank is at = at ∙ ap (λ l. interval_of l rank) is.intervals
+
+pub wide_now : {a room : CaseRoom} {c : Case} (w rank width : ℕ) {i : Interval} → IsCaseOf a c → rank ≤ length a.widths.intervals.items → rank < 256 →
+    IsCaseOf room (with_rank w c rank) → rank < length room.widths.intervals.items → i ≡ interval_of room.widths.intervals.items rank →
+    (i.low ≤ width) × (width < i.high) → IsWideNow room w c rank width
+wide_now {a} {c} w rank width {i} is most few now within at inside =
+    let here = interval_is rank now at in
+    record {
+      rule = record {
+        known = omega (arith, ap length is.intervals, most);
+        few = few;
+        some = subst (λ (j : Interval). j.low ≤ width) here inside.0;
+        below = subst (λ (j : Interval). width < j.high) here inside.1;
+      };
+      case = now;
+      within = within;
+    }
+
+pub not_wide : {room : CaseRoom} (c : Case) (w rank width : ℕ) {i : Interval} → IsCaseOf room (with_rank w c rank) → i ≡ interval_of room.widths.intervals.items rank →
+    (i.low ≤ width → i.high ≤ width) → IsWide w c rank width → ⊥
+not_wide c w rank width {i} now at outside rule =
+    let here = interval_is rank now at in
+    let some = subst (λ (j : Interval). j.low ≤ width) (sym here) rule.some in
+    omega (arith, outside some, subst (λ (j : Interval). width < j.high) (sym here) rule.below)

@@ -1,22 +1,38 @@
--- Sums over the lists that a leaf weighs, over modules and over ranks.
-use Rattle.std.proofs.Common.{◌≡◌, ℕ, zero, suc, ◌+◌, ◌-◌, ◌*◌, ◌/◌, ◌≤◌, ◌<◌, Bool, true, false, Option, Some, None, List, [], ◌∷◌, length, refl, ap, ◌∙◌, arith, inl, inr, ◌⊎◌, mul-add, add-mul, mul_left_comm, mul-le-mul_left, div-mul-le_self}
-use Rattle.std.specs.Prelude.{slice_get, slice_index, nat_eq, ◌&&◌, ◌||◌, if◌then◌else◌}
-use Rattle.std.specs.List.{sum, sum_by}
-use Rattle.std.proofs.lemmas.Bool.{cases_lt}
+-- Sums over the lists that a leaf weighs, over modules and over ranks, and the slots of modules.
+use Rattle.std.proofs.Common.{◌≡◌, ℕ, zero, suc, ◌+◌, ◌-◌, ◌*◌, ◌/◌, ◌≤◌, ◌<◌, Bool, true, false, Option, Some, None, List, [], ◌∷◌, length, refl, ap, ◌∙◌, arith, inl, inr, ◌⊎◌, mul-add, add-mul, mul_left_comm, mul-le-mul_left, div-mul-le_self, max, map, subst, slice_get, slice_index, nat_eq, ◌&&◌, ◌||◌, if◌then◌else◌, nat_lt, sum, sum_by, flat_map}
+use Rattle.std.specs.List.{range_with_len}
+use Rattle.std.proofs.lemmas.Bool.{cases_lt, cases_eq, lt-ltb, le-ltb}
 use Rattle.std.proofs.lemmas.List.Sums.{sum_by-cons}
 use Rattle.std.proofs.lemmas.Nat.{le-div}
-use Rattle.soc_model.specs.Chips.{SocValue, LiveTest, id_of}
-use Rattle.plan_model.specs.Plans.{LimitsValue, power_of_id}
+use Rattle.soc_model.specs.Chips.{SocValue, LiveTest, id_of, live_tests}
+use Rattle.plan_model.specs.Plans.{LimitsValue, power_of_id, smallest}
 use Rattle.plan_model.specs.Bounds.{sum_below, is_of}
 use Rattle.plan_model.specs.Certificates.{on}
 use Rattle.plan_model.proofs.Sums.{sum_by-le_at, sum_by-times}
 use Rattle.plan_model.proofs.SumsOverCycles.{sum_below-add, sum_below-sum_by, sum_below-le_by, sum_below-zero, sum_below-mono, indicator-le, le-indicator}
 use Rattle.proof_model.specs.Proofs.{ListValue, OfTurns, OfTurnsOn, OfCrowd, OfPower, WeightsValue}
-use Rattle.bus_proofs.specs.Cases.{Case, low_at, spare, least_wires}
+use Rattle.bus_proofs.specs.Cases.{Case, low_at, spare, known_ranks, high_at, interval}
 use Rattle.bus_proofs.specs.Lists.{is_among, is_beside, counted, power_use, use_of}
-use Rattle.bus_proofs.specs.Leaves.{rank_weight, weighed}
-use Rattle.bus_proofs.proofs.Intervals.{AreLows, beyond_lows, sum_below-first}
-use Rattle.bus_proofs.proofs.Steps.{Fits}
+use Rattle.bus_proofs.specs.Leaves.{rank_weight, weighed, Slot, slot, from_to, slots_at, rest_high, rest_slots, all_slots}
+use Rattle.bus_proofs.proofs.Intervals.{AreLows, beyond_lows, sum_below-first, Fits, AreHighs, Falls, falls_far, term-le, lows-le}
+use Rattle.std.proofs.lemmas.List.{get_or_past}
+use Rattle.plan_model.proofs.Lists.{in_append_right, in_flat_map}
+use Rattle.common_lemmas.proofs.Lists.{map_at, at_left}
+
+-- over the tests of a module that are over the wires, and over all such tests
+abbrev pub on_module : (p : ℕ) → (LiveTest → ℕ) → LiveTest → ℕ
+on_module p t l = if l.test.tam && is_of p l then t l else 0
+
+abbrev pub on_wires : (LiveTest → ℕ) → LiveTest → ℕ
+on_wires t l = if l.test.tam then t l else 0
+
+abbrev pub of_module : SocValue → (p : ℕ) → (LiveTest → ℕ) → ℕ
+of_module soc p t = sum_by (on_module p t) (live_tests soc)
+
+abbrev pub of_wires : SocValue → (LiveTest → ℕ) → ℕ
+of_wires soc t = sum_by (on_wires t) (live_tests soc)
+
+-- ==== sums over the lists that a leaf weighs, over modules and over ranks
 
 -- ---- weighed lists
 
@@ -40,32 +56,33 @@ on-times : (f : ListValue → ℕ) (k : ℕ) (o : Option ListValue) → on o (λ
 on-times f k None = omega arith
 on-times f k (Some x) = refl
 
-by_weight-add : (lists : List ListValue) (os : List (ℕ × ℕ)) (f g : ListValue → ℕ) → by_weight lists os (λ x. f x + g x) ≡ by_weight lists os f + by_weight lists os g
-by_weight-add lists [] f g = refl
-by_weight-add lists (o ∷ os) f g =
-    let here : o.1 * on (slice_get lists o.0) (λ x. f x + g x) ≡ o.1 * on (slice_get lists o.0) f + o.1 * on (slice_get lists o.0) g = ap (λ v. o.1 * v) (on-add f g (slice_get lists o.0)) ∙ mul-add o.1 (on (slice_get lists o.0) f) (on (slice_get lists o.0) g) in
-    omega (arith, here, by_weight-add lists os f g, sum_by-cons (λ (o : ℕ × ℕ). o.1 * on (slice_get lists o.0) (λ x. f x + g x)) o os, sum_by-cons (λ (o : ℕ × ℕ). o.1 * on (slice_get lists o.0) f) o os, sum_by-cons (λ (o : ℕ × ℕ). o.1 * on (slice_get lists o.0) g) o os)
+module _ (lists : List ListValue) where
+  by_weight-add : (os : List (ℕ × ℕ)) (f g : ListValue → ℕ) → by_weight lists os (λ x. f x + g x) ≡ by_weight lists os f + by_weight lists os g
+  by_weight-add [] f g = refl
+  by_weight-add (o ∷ os) f g =
+      let here = ap (λ v. o.1 * v) (on-add f g (slice_get lists o.0)) ∙ mul-add o.1 (on (slice_get lists o.0) f) (on (slice_get lists o.0) g) in
+      omega (arith, here, by_weight-add os f g, sum_by-cons (λ (o : ℕ × ℕ). o.1 * on (slice_get lists o.0) (λ x. f x + g x)) o os, sum_by-cons (λ (o : ℕ × ℕ). o.1 * on (slice_get lists o.0) f) o os, sum_by-cons (λ (o : ℕ × ℕ). o.1 * on (slice_get lists o.0) g) o os)
 
-pub weighed-add : (lists : List ListValue) (weights : WeightsValue) (f g : ListValue → ℕ) → weighed lists weights (λ x. f x + g x) ≡ weighed lists weights f + weighed lists weights g
-weighed-add lists weights f g = by_weight-add lists weights.lists f g
+  pub weighed-add : (weights : WeightsValue) (f g : ListValue → ℕ) → weighed lists weights (λ x. f x + g x) ≡ weighed lists weights f + weighed lists weights g
+  weighed-add weights f g = by_weight-add weights.lists f g
 
-by_weight-times : (lists : List ListValue) (os : List (ℕ × ℕ)) (k : ℕ) (f : ListValue → ℕ) → by_weight lists os (λ x. k * f x) ≡ k * by_weight lists os f
-by_weight-times lists [] k f = omega arith
-by_weight-times lists (o ∷ os) k f =
-    let here : o.1 * on (slice_get lists o.0) (λ x. k * f x) ≡ k * (o.1 * on (slice_get lists o.0) f) = ap (λ v. o.1 * v) (on-times f k (slice_get lists o.0)) ∙ mul_left_comm o.1 k (on (slice_get lists o.0) f) in
-    let split : by_weight lists (o ∷ os) f ≡ o.1 * on (slice_get lists o.0) f + by_weight lists os f = sum_by-cons (λ (o : ℕ × ℕ). o.1 * on (slice_get lists o.0) f) o os in
-    let product : k * (o.1 * on (slice_get lists o.0) f + by_weight lists os f) ≡ k * (o.1 * on (slice_get lists o.0) f) + k * by_weight lists os f = mul-add k (o.1 * on (slice_get lists o.0) f) (by_weight lists os f) in
-    let all : k * by_weight lists (o ∷ os) f ≡ k * (o.1 * on (slice_get lists o.0) f + by_weight lists os f) = ap (λ v. k * v) split in
-    omega (arith, here, product, all, by_weight-times lists os k f, sum_by-cons (λ (o : ℕ × ℕ). o.1 * on (slice_get lists o.0) (λ x. k * f x)) o os)
+  by_weight-times : (os : List (ℕ × ℕ)) (k : ℕ) (f : ListValue → ℕ) → by_weight lists os (λ x. k * f x) ≡ k * by_weight lists os f
+  by_weight-times [] k f = omega arith
+  by_weight-times (o ∷ os) k f =
+      let here = ap (λ v. o.1 * v) (on-times f k (slice_get lists o.0)) ∙ mul_left_comm o.1 k (on (slice_get lists o.0) f) in
+      let product = mul-add k (o.1 * on (slice_get lists o.0) f) (by_weight lists os f) in
+      let all = ap (λ v. k * v) (sum_by-cons (λ (o : ℕ × ℕ). o.1 * on (slice_get lists o.0) f) o os) in
+      omega (arith, here, product, all, by_weight-times os k f, sum_by-cons (λ (o : ℕ × ℕ). o.1 * on (slice_get lists o.0) (λ x. k * f x)) o os)
 
-pub weighed-times : (lists : List ListValue) (weights : WeightsValue) (k : ℕ) (f : ListValue → ℕ) → weighed lists weights (λ x. k * f x) ≡ k * weighed lists weights f
-weighed-times lists weights k f = by_weight-times lists weights.lists k f
+  pub weighed-times : (weights : WeightsValue) (k : ℕ) (f : ListValue → ℕ) → weighed lists weights (λ x. k * f x) ≡ k * weighed lists weights f
+  weighed-times weights k f = by_weight-times weights.lists k f
 
--- summed over numbers
-pub weighed-below : (lists : List ListValue) (weights : WeightsValue) (f : ℕ → ListValue → ℕ) (n : ℕ) → sum_below (λ p. weighed lists weights (f p)) n ≤ weighed lists weights (λ list. sum_below (λ p. f p list) n)
-unfolding sum_below
-weighed-below lists weights f zero = omega arith
-weighed-below lists weights f (suc n) = omega (arith, weighed-below lists weights f n, weighed-add lists weights (λ list. sum_below (λ p. f p list) n) (f n))
+  -- summed over numbers
+  pub weighed-below : (weights : WeightsValue) (f : ℕ → ListValue → ℕ) (n : ℕ) →
+      sum_below (λ p. weighed lists weights (f p)) n ≤ weighed lists weights (λ list. sum_below (λ p. f p list) n)
+  unfolding sum_below
+  weighed-below weights f zero = omega arith
+  weighed-below weights f (suc n) = omega (arith, weighed-below weights f n, weighed-add weights (λ list. sum_below (λ p. f p list) n) (f n))
 
 -- ---- more cycles, more use
 
@@ -112,8 +129,7 @@ scaled : (f : ℕ → ℕ) (m n : ℕ) → sum_below (λ k. f k * m) n ≡ sum_b
 unfolding sum_below
 scaled f m zero = omega arith
 scaled f m (suc n) =
-    let product : (sum_below f n + f n) * m ≡ sum_below f n * m + f n * m = add-mul (sum_below f n) (f n) m in
-    omega (arith, scaled f m n, product)
+    omega (arith, scaled f m n, add-mul (sum_below f n) (f n) m)
 
 -- where the tests over the wires of each rank take at most `n` cycles, all of them at the rates of their ranks take no more than
 -- `n` cycles at the rates of all ranks together
@@ -134,9 +150,7 @@ by_rank rate rk time ls top n below few =
 
     load : (k : ℕ) → sum_by (λ l. if l.test.tam && nat_eq (rk l) k then rate k * time l else 0) ls ≤ rate k * n
     load k =
-        let product : rate k * sum_by (λ l. if l.test.tam && nat_eq (rk l) k then time l else 0) ls ≡ sum_by (λ l. if l.test.tam && nat_eq (rk l) k then rate k * time l else 0) ls = sum_by-times (λ (l : LiveTest). l.test.tam && nat_eq (rk l) k) time (rate k) ls in
-        let more : rate k * sum_by (λ l. if l.test.tam && nat_eq (rk l) k then time l else 0) ls ≤ rate k * n = mul-le-mul_left (rate k) (few k) in
-        omega (arith, product, more)
+        omega (arith, sum_by-times (λ (l : LiveTest). l.test.tam && nat_eq (rk l) k) time (rate k) ls, mul-le-mul_left (rate k) (few k))
 
 -- ---- the rates of ranks
 
@@ -155,12 +169,92 @@ unfolding sum_below
 times_below f k zero = omega arith
 times_below f k (suc n) = omega (arith, times_below f k n, mul-add k (sum_below f n) (f n))
 
-pub rates-le : (w : ℕ) (f : ℕ → ℕ) (c : Case) (weights : WeightsValue) (n : ℕ) → AreLows c.intervals f → Fits f w → length c.intervals ≤ n → sum_below (rate_of f c weights) n ≤ sum weights.ranks + weights.wire * spare w c.intervals
-rates-le w f c weights n lows fits long =
-    let split : sum_below (rate_of f c weights) n ≡ sum_below (rank_weight weights) n + sum_below (λ r. weights.wire * (f r - low_at c r)) n = sum_below-add (rank_weight weights) (λ r. weights.wire * (f r - low_at c r)) n in
-    let product : sum_below (λ r. weights.wire * (f r - low_at c r)) n ≡ weights.wire * sum_below (λ r. f r - low_at c r) n = times_below (λ r. f r - low_at c r) weights.wire n in
-    let beyond : sum_below (λ r. f r - low_at c r) n + least_wires c.intervals ≡ sum_below f n = beyond_lows c.intervals f n long lows in
-    let all : sum_below f n ≤ w = fits n in
-    let few : sum_below (λ r. f r - low_at c r) n ≤ spare w c.intervals = omega (arith, beyond, all) in
-    let more : weights.wire * sum_below (λ r. f r - low_at c r) n ≤ weights.wire * spare w c.intervals = mul-le-mul_left weights.wire few in
-    omega (arith, split, product, more, sum_of_indices weights.ranks n)
+pub rates-le : {w : ℕ} {f : ℕ → ℕ} (c : Case) (weights : WeightsValue) (n : ℕ) → AreLows c.intervals f → Fits f w → length c.intervals ≤ n →
+    sum_below (rate_of f c weights) n ≤ sum weights.ranks + weights.wire * spare w c.intervals
+rates-le {w} {f} c weights n lows fits long =
+    let split = sum_below-add (rank_weight weights) (λ r. weights.wire * (f r - low_at c r)) n in
+    let product = times_below (λ r. f r - low_at c r) weights.wire n in
+    let few : sum_below (λ r. f r - low_at c r) n ≤ spare w c.intervals = omega (arith, beyond_lows c.intervals f n long lows, fits n) in
+    omega (arith, split, product, mul-le-mul_left weights.wire few, sum_of_indices weights.ranks n)
+
+-- ==== in a plan each module with a test over the wires is on one of its slots
+
+-- a rank, where the case speaks of it
+abbrev pub known_rank : (known rank : ℕ) → Option ℕ
+known_rank known rank = if nat_lt rank known then Some rank else None
+
+pub in_range : (a n v : ℕ) → a ≤ v → v < a + n → (i : ℕ) × (slice_get (range_with_len a n) i ≡ Some v)
+in_range a zero v from to = absurd (omega arith)
+in_range a (suc n) v from to = elim (cases_eq a v) [
+  | inl same ↦ (0, ap Some same)
+  | inr other ↦ let r = in_range (a + 1) n v (omega (arith, other)) (omega arith) in (suc r.0, r.1)
+]
+
+module _ (w : ℕ) (c : Case) (weights : WeightsValue) (p : ℕ) where
+  -- a slot of the module at a place
+  abbrev HasSlot : Slot → Type 0
+  HasSlot s = (n : ℕ) × (slice_get (all_slots w c weights p) n ≡ Some s)
+
+  pub of_known : (r v : ℕ) → r < known_ranks c → c.may p r ≡ true → 1 ≤ v → low_at c r ≤ v → v ≤ high_at c r →
+      HasSlot (slot (Some r) v (rank_weight weights r + weights.wire * (v - low_at c r)))
+  of_known r v known may some low high =
+      let at = in_range (max 1 (low_at c r)) (high_at c r + 1 - max 1 (low_at c r)) v (omega arith) (omega arith) in
+      let here = map_at (λ v. slot (Some r) v (rank_weight weights r + weights.wire * (v - low_at c r))) (from_to (max 1 (low_at c r)) (high_at c r)) at.0 v at.1 in
+      let k = in_range 0 (known_ranks c) r (omega arith) (omega arith) in
+      let all = in_flat_map (λ rank. if c.may p rank then slots_at c weights rank else []) (range_with_len 0 (known_ranks c)) k.0 at.0 r (slot (Some r) v (rank_weight weights r + weights.wire * (v - low_at c r))) k.1 (rw may here) in
+      (all.0, at_left (flat_map (λ rank. if c.may p rank then slots_at c weights rank else []) (range_with_len 0 (known_ranks c))) (if c.may_rest p then rest_slots w c weights else []) all.0 (slot (Some r) v (rank_weight weights r + weights.wire * (v - low_at c r))) all.1)
+
+  pub of_rest : (v : ℕ) → c.may_rest p ≡ true → 1 ≤ v → v ≤ rest_high w c (known_ranks c) → HasSlot (slot None v (weights.wire * v))
+  of_rest v may some high =
+      let at = in_range 1 (rest_high w c (known_ranks c) + 1 - 1) v some (omega arith) in
+      let here = map_at (λ v. slot None v (weights.wire * v)) (from_to 1 (rest_high w c (known_ranks c))) at.0 v at.1 in
+      in_append_right (flat_map (λ rank. if c.may p rank then slots_at c weights rank else []) (range_with_len 0 (known_ranks c))) (if c.may_rest p then rest_slots w c weights else []) at.0 (slot None v (weights.wire * v)) (rw may here)
+
+none_below : (f : ℕ → ℕ) → sum_below f 0 ≡ 0
+unfolding sum_below
+none_below f = refl
+
+-- a width beside those of earlier ranks
+beside : (f : ℕ → ℕ) (n k : ℕ) → n ≤ k → f k + sum_below f n ≤ sum_below f (suc k)
+beside f zero k h = omega (arith, term-le f (suc k) k (omega arith), none_below f)
+beside f (suc n) zero h = absurd (omega arith)
+beside f (suc n) (suc k) h = omega (arith, beside (λ j. f (suc j)) n k (omega arith), sum_below-first f n, sum_below-first f (suc k))
+
+module _ {w : ℕ} {f : ℕ → ℕ} (c : Case) where
+  -- a bus of the rest is within its bound
+  pub rest_fits : (r : ℕ) → Falls f → Fits f w → AreLows c.intervals f → AreHighs c.intervals f → known_ranks c ≤ r → f r ≤ rest_high w c (known_ranks c)
+  rest_fits r falls fits lows highs rest = go (known_ranks c) refl
+    where
+      go : (known : ℕ) → known_ranks c ≡ known → f r ≤ rest_high w c known
+      go zero e =
+          let one = term-le f (suc r) r (omega arith) in
+          let all = fits (suc r) in
+          omega arith
+      go (suc last) e =
+          let above = falls_far f falls last r (omega arith) in
+          let high = highs last (omega arith) in
+          let least = lows-le c.intervals f lows in
+          let both : f r + sum_below f (known_ranks c) ≤ w = omega (arith, beside f (known_ranks c) r rest, fits (suc r)) in
+          omega arith
+
+  -- the slot of a module that is on a rank
+  pub slot_there : (weights : WeightsValue) (p r : ℕ) → Falls f → Fits f w → AreLows c.intervals f → AreHighs c.intervals f → length weights.ranks ≤ known_ranks c →
+      1 ≤ f r → (r < known_ranks c → c.may p r ≡ true) → (known_ranks c ≤ r → c.may_rest p ≡ true) →
+      HasSlot w c weights p (slot (known_rank (known_ranks c) r) (f r) (rate_of f c weights r))
+  slot_there weights p r falls fits lows highs few some may may_rest = elim (cases_lt r (known_ranks c)) [
+    | inl known ↦ rw (lt-ltb r (known_ranks c) known) (of_known w c weights p r (f r) known (may known) some (lows r known) (highs r known))
+    | inr rest ↦
+        let low : low_at c r ≡ 0 = ap (λ i. i.low) (get_or_past c.intervals r (interval 0 0) rest) in
+        let wires : f r - low_at c r ≡ f r = omega arith in
+        let rate : weights.wire * f r ≡ rate_of f c weights r = rw ((get_or_past weights.ranks r 0 (omega arith)), wires) (omega arith) in
+        rw (le-ltb r (known_ranks c) rest) (subst (λ v. HasSlot w c weights p (slot None (f r) v)) rate (of_rest w c weights p (f r) (may_rest rest) some (rest_fits r falls fits lows highs rest)))
+  ]
+
+-- ---- the least of some costs
+
+pub smallest-le : {X : Type 0} (g : X → ℕ) (xs : List X) (n : ℕ) {x : X} → slice_get xs n ≡ Some x → smallest (map g xs) ≤ g x
+smallest-le g [] n at = absurd cc
+smallest-le g (y ∷ []) zero {x} at = let same : g y ≡ g x = ap g cc in omega arith
+smallest-le g (y ∷ []) (suc n) at = absurd cc
+smallest-le g (y ∷ z ∷ xs) zero {x} at = let same : g y ≡ g x = ap g cc in omega arith
+smallest-le g (y ∷ z ∷ xs) (suc n) at = omega (arith, smallest-le g (z ∷ xs) n at)

@@ -12,7 +12,7 @@ ghost use Rattle.bus_proofs.specs.Bases.{IsBasis, chip_of, limits_of, proof_of};
 
 use crate::list_table::{ListTable, list_table};
 use crate::test_table::{TestTable, test_table};
-use live_tests::Resolved;
+use live_tests::{Problem, Resolved};
 use outside::{NoMemory, push};
 use packed_times::PackedTimes;
 use plan_model::Limits;
@@ -69,7 +69,8 @@ impl<'a> Basis<'a> {
         let wired = all_wired(alloc, soc)?;
         let times = PackedTimes::new(alloc, soc, limits.wires)?;
         let tests = test_table(alloc, soc, limits, resolved)?;
-        let lists = list_table(alloc, soc, limits, resolved, &proof.lists)?;
+        let problem = Problem::new(soc, limits, resolved);
+        let lists = list_table(alloc, &problem, &proof.lists)?;
         Ok(Basis {
             soc,
             limits,

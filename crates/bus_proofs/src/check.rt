@@ -22,7 +22,7 @@ use crate::leaf::LeafRoom;
 use crate::leaf_costs::USES_MOST;
 use crate::nodes::RANKS_MOST;
 use crate::walk::{OpenSplit, check_nodes};
-use live_tests::Resolved;
+use live_tests::{Problem, Resolved};
 use outside::NoMemory;
 use plan_model::Limits;
 use proof_model::{Node, Proof};
@@ -108,8 +108,24 @@ impl<'a> ProofRoom<'a> {
         room
     }
 
-    /// The same, where chip and limits are resolved already.
-    pub fn with_resolved(
+    /// The same over a problem.
+    pub fn over(
+        alloc: Global,
+        problem: &Problem<'a>,
+        proof: &'a Proof,
+    ) -> Result<ProofRoom<'a>, NoMemory>
+        requires { MayBeSaid (proof_value proof.now) }
+        ensures { IfOk result (λ room. room ≡ record {
+          chip = problem.now.soc;
+          limits = problem.now.limits;
+          proof = proof_value proof.now;
+        }) }
+    {
+        ProofRoom::with_resolved(alloc, problem.soc, problem.limits, problem.resolved, proof)
+    }
+
+    /// The same over a chip and its limits, resolved.
+    fn with_resolved(
         alloc: Global,
         soc: &'a Soc,
         limits: &'a Limits,

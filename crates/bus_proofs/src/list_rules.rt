@@ -4,13 +4,11 @@ ghost use Rattle.std.specs.List.{filter, sum};
 ghost use Rattle.soc_model.specs.declared.TestId.{TestId};
 ghost use Rattle.soc_model.specs.Chips.{LiveTest, is_live, live_tests, same_test, soc_value};
 ghost use Rattle.soc_model.specs.declared.Test.{Test};
-ghost use Rattle.soc_model.specs.SoundChips.{IsSoundChip};
-ghost use Rattle.live_tests.specs.Resolved.{IsResolved};
 ghost use Rattle.bus_proofs.specs.Takings.{bit_at};
-ghost use Rattle.bus_proofs.specs.ListRules.{AreCrowdMarks, AreHeavy, AreTurnMarks, IsListRules, MemberAdded, MembersMarked, TurnAdded, TurnsMarked, both_marked, chip_ruled};
+ghost use Rattle.bus_proofs.specs.ListRules.{AreCrowdMarks, AreHeavy, AreTurnMarks, IsListRules, MemberAdded, MembersMarked, TurnAdded, TurnsMarked, both_marked, chip_ruled, limits_ruled};
 
 use exclusions::ExclusionRows;
-use live_tests::{LiveTests, Resolved};
+use live_tests::{LiveTests, Problem};
 use outside::{NoMemory, push};
 use packed_times::sorted_lengths;
 use plan_model::Limits;
@@ -72,25 +70,18 @@ fn all_tams(alloc: Global, soc: &Soc) -> Result<Vec<bool>, NoMemory>
 }
 
 impl<'a> ListRules<'a> {
-    /// Those of a chip and its limits, which are resolved. `NoMemory` where there is none.
-    pub fn new(
-        alloc: Global,
-        soc: &'a Soc,
-        limits: &'a Limits,
-        resolved: &'a Resolved,
-    ) -> Result<ListRules<'a>, NoMemory>
-        requires sound { IsSoundChip (soc_value soc.now) }
-        requires resolved { IsResolved (soc_value soc.now) limits.now resolved.now }
+    /// Those of a chip and its limits. `NoMemory` where there is none.
+    pub fn new(alloc: Global, problem: &Problem<'a>) -> Result<ListRules<'a>, NoMemory>
         ensures rules { IfOk result IsListRules }
-        ensures chip { IfOk result (λ rules. rules.soc.now ≡ soc.now) }
-        ensures limits { IfOk result (λ rules. rules.limits.now ≡ limits.now) }
+        ensures chip { IfOk result (λ rules. chip_ruled rules ≡ problem.now.soc) }
+        ensures limits { IfOk result (λ rules. limits_ruled rules ≡ problem.now.limits) }
     {
-        let rows = ExclusionRows::new(alloc, soc, limits, resolved)?;
-        let tams = all_tams(alloc, soc)?;
+        let rows = ExclusionRows::new(alloc, problem)?;
+        let tams = all_tams(alloc, problem.soc)?;
         Ok(ListRules {
-            soc,
-            limits,
-            names: &resolved.tests,
+            soc: problem.soc,
+            limits: problem.limits,
+            names: &problem.resolved.tests,
             rows,
             tams,
         })

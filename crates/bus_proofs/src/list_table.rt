@@ -1,11 +1,6 @@
 //! Which tests the lists of a proof have, and which of the lists keep their rules.
 ghost use Rattle.std.specs.Prelude.{◌≡◌, ◌++◌, ℕ, Bool, List, length, map, take, IfOk, OnOk};
 ghost use Rattle.std.specs.List.{flat_map};
-ghost use Rattle.soc_model.specs.Chips.{soc_value};
-ghost use Rattle.soc_model.specs.SoundChips.{IsSoundChip};
-ghost use Rattle.plan_model.specs.Views.{limits_value};
-ghost use Rattle.plan_model.specs.SoundLimits.{IsSoundLimits};
-ghost use Rattle.live_tests.specs.Resolved.{IsResolved};
 ghost use Rattle.soc_model.specs.declared.TestId.{TestId};
 ghost use Rattle.bus_proofs.specs.declared.list_table.Role.TheVariants.{Drawing};
 ghost use Rattle.proof_model.specs.Proofs.{OfCrowd, OfPower, OfTurns, OfTurnsOn, list_value};
@@ -14,11 +9,10 @@ ghost use Rattle.bus_proofs.specs.ListTables.{IsListTable, KeepFirst};
 
 use crate::list_rules::{ListRules, TurnMarks, are_heavy, crowd_marks, turn_marks};
 use crate::lists::is_near;
-use live_tests::Resolved;
+use live_tests::Problem;
 use outside::{NoMemory, push};
-use plan_model::Limits;
 use proof_model::TestList;
-use soc_model::{Soc, TestId};
+use soc_model::TestId;
 use std::alloc::Global;
 
 /// How a live test is in a list.
@@ -114,7 +108,7 @@ fn add_turns(
     Ok(true)
 }
 
-/// The same for a list of turns on a bus.
+/// Adds a list of turns on a bus, where it keeps its rule.
 fn add_turns_on(
     alloc: Global,
     rules: &ListRules<'_>,
@@ -131,7 +125,7 @@ fn add_turns_on(
     Ok(true)
 }
 
-/// The same for a crowd.
+/// Adds a crowd, where it keeps its rule.
 fn add_crowd(
     alloc: Global,
     rules: &ListRules<'_>,
@@ -152,7 +146,7 @@ fn add_crowd(
     Ok(true)
 }
 
-/// The same for the power.
+/// Adds the power, where it keeps its rule.
 fn add_power(rules: &ListRules<'_>, near: u64, roles: &mut Vec<Role>) -> Result<bool, NoMemory>
     requires { IsListRules rules.now }
     ensures { IfOk result (ListAdded rules.now (OfPower near) roles.old.items roles.new.items) }
@@ -164,7 +158,7 @@ fn add_power(rules: &ListRules<'_>, near: u64, roles: &mut Vec<Role>) -> Result<
     Ok(true)
 }
 
-/// The same for any list.
+/// Adds a list of any kind, where it keeps its rule.
 fn add_list(
     alloc: Global,
     rules: &ListRules<'_>,
@@ -205,17 +199,12 @@ fn add_lists(
 /// The table of some lists. `NoMemory` where there is none.
 pub(crate) fn list_table(
     alloc: Global,
-    soc: &Soc,
-    limits: &Limits,
-    resolved: &Resolved,
+    problem: &Problem<'_>,
     lists: &[TestList],
 ) -> Result<ListTable, NoMemory>
-    requires sound { IsSoundChip (soc_value soc.now) }
-    requires limits { IsSoundLimits (soc_value soc.now) (limits_value limits.now) }
-    requires resolved { IsResolved (soc_value soc.now) limits.now resolved.now }
-    ensures { IfOk result (IsListTable (soc_value soc.now) (limits_value limits.now) (map list_value lists.now)) }
+    ensures { IfOk result (IsListTable problem.now.soc problem.now.limits (map list_value lists.now)) }
 {
-    let rules = ListRules::new(alloc, soc, limits, resolved)?;
+    let rules = ListRules::new(alloc, problem)?;
     let mut roles = Vec::new(alloc);
     let kept = add_lists(alloc, &rules, lists, &mut roles)?;
     let tests = rules.tams.len();

@@ -110,7 +110,7 @@ fn push_found(text: &mut Vec<u8>, test: Option<PlacedTest>, cycles: u64) -> Resu
 }
 
 /// Appends the lines of all starts.
-fn push_rows(text: &mut Vec<u8>, tests: &PlacedTests, plan: &Plan) -> Result<(), NoMemory>
+fn push_rows(text: &mut Vec<u8>, tests: &PlacedTests<'_>, plan: &Plan) -> Result<(), NoMemory>
     ensures { OnOk result (text.new.items ≡ text.old.items ++ flat_map (start_row plan.now.cycles tests.now) plan.now.starts.items) }
 {
     for (id, _) in &plan.starts {
@@ -128,19 +128,19 @@ pub fn print_chart(alloc: Global, soc: &Soc, plan: &Plan) -> Result<Vec<u8>, NoM
     ensures { IfOk result (λ text. text.items ≡ chart_text (soc_value soc.now) (plan_value plan.now)) }
 {
     let names = LiveTests::new(alloc, soc)?;
-    print_chart_with(alloc, soc, plan, names)
+    print_chart_with(alloc, soc, plan, &names)
 }
 
-/// The same chart, where the live tests of the chip are at hand by name.
+/// The chart of a good plan, where the live tests of the chip are at hand by name.
 pub fn print_chart_with(
     alloc: Global,
     soc: &Soc,
     plan: &Plan,
-    names: LiveTests,
+    names: &LiveTests,
 ) -> Result<Vec<u8>, NoMemory>
     requires sound { IsSoundChip (soc_value soc.now) }
     requires good { IsGoodAlone (soc_value soc.now) (plan_value plan.now) }
-    requires names { names ≡ live_ids (soc_value soc.now) }
+    requires names { names.now ≡ live_ids (soc_value soc.now) }
     ensures { IfOk result (λ text. text.items ≡ chart_text (soc_value soc.now) (plan_value plan.now)) }
 {
     let tests = PlacedTests::with_names(alloc, soc, plan, names)?;

@@ -1,16 +1,12 @@
 //! The tables of a chip and its limits, filled from both.
 ghost use Rattle.std.specs.Prelude.{◌≡◌, ℕ, ◌^◌, ◌<◌, ◌≤◌, Some, IsTrue, length, slice_get};
-ghost use Rattle.soc_model.specs.Chips.{ModuleValue, is_live, module_value, soc_value};
+ghost use Rattle.soc_model.specs.Chips.{ModuleValue, is_live, module_value};
 ghost use Rattle.soc_model.specs.Sizes.{test_work};
-ghost use Rattle.soc_model.specs.SoundChips.{IsSoundChip};
-ghost use Rattle.plan_model.specs.Views.{limits_value};
-ghost use Rattle.plan_model.specs.SoundLimits.{IsSoundLimits};
-ghost use Rattle.live_tests.specs.Resolved.{IsResolved};
-ghost use Rattle.chip_tables.specs.Origins.{IsOrigin};
+ghost use Rattle.chip_tables.specs.TimesOf.{AreTimesOf};
 
 use case_tables::ChipTables;
 use exclusions::ExclusionRows;
-use live_tests::{Resolved, profile_place};
+use live_tests::{Problem, Resolved, profile_place};
 use outside::{NoMemory, both, push};
 use packed_times::PackedTimes;
 use plan_model::Limits;
@@ -18,15 +14,6 @@ use search_numbers::{mark_place, words_for};
 use soc_model::{Module, Soc, Test, TestId, has_tam_test, live, module_at};
 use std::alloc::Global;
 use tables::{NONE, item_or};
-
-/// What the tables are made from.
-#[derive(Clone, Copy)]
-struct Origin<'a> {
-    soc: &'a Soc,
-    limits: &'a Limits,
-    resolved: &'a Resolved,
-    times: &'a PackedTimes<'a>,
-}
 
 /// Adds the steps of a profile.
 fn push_steps(chip: &mut ChipTables, steps: &[(u64, u64)]) -> Result<(), NoMemory> {
@@ -109,14 +96,15 @@ fn push_times(
 /// Adds a live test of the module at a place.
 fn push_test(
     chip: &mut ChipTables,
-    origin: Origin<'_>,
+    problem: &Problem<'_>,
+    times: &PackedTimes<'_>,
     place: usize,
     module: &Module,
     wired: bool,
     test: &Test,
 ) -> Result<(), NoMemory>
-    requires origin { IsOrigin origin }
-    requires there { slice_get (soc_value origin.soc.now).modules place ≡ Some (module_value «module».now) }
+    requires times { AreTimesOf problem.now times.now.chip times.now.wires }
+    requires there { slice_get problem.now.soc.modules place ≡ Some (module_value «module».now) }
     requires test_there { (k : ℕ) × (slice_get «module».now.tests.items k ≡ Some test.now) }
     requires live { IsTrue (is_live test.now) }
 {
@@ -124,12 +112,12 @@ fn push_test(
         module: module.number,
         test: test.number,
     };
-    let found = profile_place(&origin.limits.profiles, &origin.resolved.profiles, id);
-    let parent = parent_number(origin.soc, origin.resolved, place);
+    let found = profile_place(&problem.limits.profiles, &problem.resolved.profiles, id);
+    let parent = parent_number(problem.soc, problem.resolved, place);
     push_name(chip, module.number, parent, test)?;
-    push_profile(chip, origin.limits, found)?;
+    push_profile(chip, problem.limits, found)?;
     push_home(chip, wired)?;
-    push_times(chip, origin.times, place, test, origin.limits.wires)?;
+    push_times(chip, times, place, test, problem.limits.wires)?;
     chip.tests = chip.tests.saturating_add(1);
     Ok(())
 }
@@ -137,47 +125,58 @@ fn push_test(
 /// Adds the live tests of the module at a place.
 fn push_tests(
     chip: &mut ChipTables,
-    origin: Origin<'_>,
+    problem: &Problem<'_>,
+    times: &PackedTimes<'_>,
     place: usize,
     module: &Module,
     wired: bool,
 ) -> Result<(), NoMemory>
-    requires origin { IsOrigin origin }
-    requires there { slice_get (soc_value origin.soc.now).modules place ≡ Some (module_value «module».now) }
+    requires times { AreTimesOf problem.now times.now.chip times.now.wires }
+    requires there { slice_get problem.now.soc.modules place ≡ Some (module_value «module».now) }
 {
     for test in &module.tests {
         if live(test) {
-            push_test(chip, origin, place, module, wired, test)?;
+            push_test(chip, problem, times, place, module, wired, test)?;
         }
     }
     Ok(())
 }
 
 /// Adds what a wired module's tests over the wires take on each width.
-fn push_totals(chip: &mut ChipTables, origin: Origin<'_>, place: usize) -> Result<(), NoMemory>
-    requires origin { IsOrigin origin }
-    requires place { place < length (soc_value origin.soc.now).modules }
+fn push_totals(
+    chip: &mut ChipTables,
+    problem: &Problem<'_>,
+    times: &PackedTimes<'_>,
+    place: usize,
+) -> Result<(), NoMemory>
+    requires times { AreTimesOf problem.now times.now.chip times.now.wires }
+    requires place { place < length problem.now.soc.modules }
 {
-    for width in 1..origin.limits.wires + 1 {
-        let cycles = origin.times.tam_time(place, width);
+    for width in 1..problem.limits.wires + 1 {
+        let cycles = times.tam_time(place, width);
         push(&mut chip.total, cycles)?;
     }
-    let own = origin.times.self_time(place);
+    let own = times.self_time(place);
     push(&mut chip.selfs, own)
 }
 
 /// Adds the module at a place with its tests.
-fn push_module(chip: &mut ChipTables, origin: Origin<'_>, place: usize) -> Result<(), NoMemory>
-    requires origin { IsOrigin origin }
-    requires place { place < length (soc_value origin.soc.now).modules }
+fn push_module(
+    chip: &mut ChipTables,
+    problem: &Problem<'_>,
+    times: &PackedTimes<'_>,
+    place: usize,
+) -> Result<(), NoMemory>
+    requires times { AreTimesOf problem.now times.now.chip times.now.wires }
+    requires place { place < length problem.now.soc.modules }
 {
-    let module = module_at(origin.soc, place);
+    let module = module_at(problem.soc, place);
     let wired = has_tam_test(module);
-    push_tests(chip, origin, place, module, wired)?;
+    push_tests(chip, problem, times, place, module, wired)?;
     if !wired {
         return Ok(());
     }
-    push_totals(chip, origin, place)?;
+    push_totals(chip, problem, times, place)?;
     push(&mut chip.number, module.number)?;
     let end = chip.order.len();
     push(&mut chip.first, end)?;
@@ -186,13 +185,17 @@ fn push_module(chip: &mut ChipTables, origin: Origin<'_>, place: usize) -> Resul
 }
 
 /// Adds all modules with their tests.
-fn push_modules(chip: &mut ChipTables, origin: Origin<'_>) -> Result<(), NoMemory>
-    requires origin { IsOrigin origin }
+fn push_modules(
+    chip: &mut ChipTables,
+    problem: &Problem<'_>,
+    times: &PackedTimes<'_>,
+) -> Result<(), NoMemory>
+    requires times { AreTimesOf problem.now times.now.chip times.now.wires }
 {
     push(&mut chip.first, 0)?;
     push(&mut chip.steps_first, 0)?;
-    for place in 0..origin.soc.modules.len() {
-        push_module(chip, origin, place)?;
+    for place in 0..problem.soc.modules.len() {
+        push_module(chip, problem, times, place)?;
     }
     Ok(())
 }
@@ -216,13 +219,11 @@ fn set_row(rows: &mut [u64], start: usize, holds: &[bool]) {
 }
 
 /// Adds which live tests exclude each other, and the least that each draws.
-fn push_rows(alloc: Global, chip: &mut ChipTables, origin: Origin<'_>) -> Result<(), NoMemory>
-    requires origin { IsOrigin origin }
-{
-    let tests = origin.resolved.tests.names().len();
+fn push_rows(alloc: Global, chip: &mut ChipTables, problem: &Problem<'_>) -> Result<(), NoMemory> {
+    let tests = problem.resolved.tests.names().len();
     let words = words_for(tests);
     let mut bits = vec![in alloc; 0u64; tests.saturating_mul(words)]?;
-    let rows = ExclusionRows::new(alloc, origin.soc, origin.limits, origin.resolved)?;
+    let rows = ExclusionRows::new(alloc, problem)?;
     for test in 0..tests {
         let marks = rows.row(alloc, test)?;
         set_row(&mut bits, test.saturating_mul(words), &marks);
@@ -234,41 +235,30 @@ fn push_rows(alloc: Global, chip: &mut ChipTables, origin: Origin<'_>) -> Result
 }
 
 /// Adds what a chip and its limits say.
-fn push_all(alloc: Global, chip: &mut ChipTables, origin: Origin<'_>) -> Result<(), NoMemory>
-    requires origin { IsOrigin origin }
+fn push_all(
+    alloc: Global,
+    chip: &mut ChipTables,
+    problem: &Problem<'_>,
+    times: &PackedTimes<'_>,
+) -> Result<(), NoMemory>
+    requires times { AreTimesOf problem.now times.now.chip times.now.wires }
 {
-    push_modules(chip, origin)?;
-    push_precedences(chip, origin.resolved)?;
-    push_rows(alloc, chip, origin)
+    push_modules(chip, problem, times)?;
+    push_precedences(chip, problem.resolved)?;
+    push_rows(alloc, chip, problem)
 }
 
-/// The tables of a sound chip and its limits, which are resolved, for a plan of `goal` cycles. `NoMemory` where there
-/// is none.
-pub fn tables_of(
-    alloc: Global,
-    soc: &Soc,
-    limits: &Limits,
-    resolved: &Resolved,
-    goal: u64,
-) -> Result<ChipTables, NoMemory>
-    requires sound { IsSoundChip (soc_value soc.now) }
-    requires limits { IsSoundLimits (soc_value soc.now) (limits_value limits.now) }
-    requires resolved { IsResolved (soc_value soc.now) limits.now resolved.now }
-{
-    let times = PackedTimes::new(alloc, soc, limits.wires)?;
-    let origin = Origin {
-        soc,
-        limits,
-        resolved,
-        times: &times,
-    };
+/// The tables of a chip and its limits, for a plan of `goal` cycles. `NoMemory` where there is none.
+pub fn tables_of(alloc: Global, problem: &Problem<'_>, goal: u64) -> Result<ChipTables, NoMemory> {
+    let limits = problem.limits;
+    let times = PackedTimes::new(alloc, problem.soc, limits.wires)?;
     let mut chip = ChipTables::without_tests(
         alloc,
         limits.wires as usize,
         limits.power.unwrap_or(0),
         goal,
     );
-    let pushed = push_all(alloc, &mut chip, origin);
+    let pushed = push_all(alloc, &mut chip, problem, &times);
     drop(times);
     let (chip, ()) = both(Ok(chip), pushed)?;
     Ok(chip)

@@ -1,6 +1,5 @@
 -- From the verdict on what comes after a file to the verdict from that file on.
-use Rattle.std.proofs.Common.{◌≡◌, ◌⊎◌, ℕ, ◌≤◌, inl, inr, List, Option, None, Some, IfSome, Result, Ok, Err, IfOk, Bool, true, false, length, refl, sym, ◌∙◌, subst, arith, IsTrue}
-use Rattle.std.specs.Prelude.{nat_lt, MatchBool}
+use Rattle.std.proofs.Common.{◌≡◌, ◌⊎◌, ℕ, ◌≤◌, inl, inr, List, Option, None, Some, IfSome, Result, Ok, Err, IfOk, Bool, true, false, length, refl, sym, ◌∙◌, subst, arith, IsTrue, nat_lt, MatchBool}
 use Rattle.std.specs.FinMap.{get}
 use Rattle.std.specs.Global.{Vec}
 use Rattle.std.proofs.lemmas.Bool.{le-ltb}

@@ -1,5 +1,6 @@
 pub mod AllFiles
 pub mod Completeness
+pub mod Endings
 pub mod FileStages
 pub mod LineFacts
 pub mod LoadStages

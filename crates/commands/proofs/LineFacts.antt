@@ -1,9 +1,7 @@
 -- Texts without a line feed, and with one at the end.
-use Rattle.std.proofs.Common.{lit≤, Result, Ok, Err, OnOk, ◌≡◌, ℕ, ◌+◌, ◌%◌, ◌^◌, ◌<◌, ◌≤◌, List, [], ◌∷◌, ◌++◌, true, decimal, length, get_or, take, refl, sym, ap, ◌∙◌, append_assoc, arith}
-use Rattle.std.specs.Prelude.{not, ◌&&◌, nat_eq, codes, IsTrue}
+use Rattle.std.proofs.Common.{lit≤, Result, Ok, Err, OnOk, ◌≡◌, ℕ, ◌+◌, ◌%◌, ◌^◌, ◌<◌, ◌≤◌, List, [], ◌∷◌, ◌++◌, true, decimal, length, get_or, take, refl, sym, ap, ◌∙◌, append_assoc, arith, not, ◌&&◌, nat_eq, codes, IsTrue, flat_map}
 use Rattle.std.proofs.lemmas.Grind.{common_steps}
 use Rattle.std.proofs.lemmas.Bool.{and_from, and_parts}
-use Rattle.std.specs.List.{flat_map}
 use Rattle.std.proofs.lemmas.List.{append-nil, take_more}
 use Rattle.std.proofs.lemmas.List.Concat.{flat_map-append}
 use Rattle.std.proofs.lemmas.List.Folds.{list_all-append}

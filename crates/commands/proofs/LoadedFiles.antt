@@ -3,7 +3,7 @@ use Rattle.std.proofs.Common.{◌≡◌, ℕ, inl, inr, List, Result, Ok, Err, r
 use Rattle.outside.specs.declared.shelf.Loaded.TheVariants as loaded
 use Rattle.soc_model.specs.declared.Soc.{Soc as SocModel}
 use Rattle.soc_model.specs.Chips.{SocValue}
-use Rattle.plan_model.specs.declared.Limits.{Limits as LimitsModel}
+use Rattle.commands.specs.declared.loading.Bounds.{Bounds}
 use Rattle.plan_model.specs.declared.Plan.{Plan as PlanModel}
 use Rattle.plan_model.specs.Plans.{LimitsValue, PlanValue}
 use Rattle.soc_reader.specs.declared.SocFault.{SocFault}
@@ -18,8 +18,8 @@ use Rattle.plan_text.specs.declared.PlanTextFault.TheVariants as plan_fault
 use Rattle.plan_text.specs.Answers.{SaysPlan, PlanRead}
 use Rattle.commands.specs.declared.FileKind.TheVariants.{Soc, Limits, Plan}
 use Rattle.commands.specs.declared.Verdict.{Verdict}
-use Rattle.commands.specs.declared.loading.Both.{Both}
-use Rattle.commands.specs.declared.loading.Accepted.{Accepted}
+use Rattle.live_tests.specs.Problems.{ProblemValue}
+use Rattle.commands.specs.AcceptedPlans.{AcceptedValue}
 use Rattle.commands.specs.Texts.{chip_line, chip_limit_line, limits_line, unknown_test_line, loop_line, test_power_line, plan_line, fault_line}
 use Rattle.commands.specs.Readings.{most_of, RefusesChip, RefusesLimits, SaysAccepted, RefusesPlan}
 use Rattle.commands.specs.Decides.{RefusesSoc, RefusesBounds, RefusesValue, AnswersCheck}
@@ -32,7 +32,7 @@ pub chip_stops : {S : Type 0} (is_load : LoadsOf S) (name : List ℕ) (first las
     LoadsFile is_load Soc name first (Err verdict) last → result ≡ Err verdict → LoadsSoc is_load name first result last
 chip_stops is_load name first last verdict result d is = rw is (any_refusal is_load Soc RefusesChip name first last verdict d)
 
-pub limits_stop : {S : Type 0} (is_load : LoadsOf S) (chip : SocValue) (name : List ℕ) (first last : S) (verdict : Verdict) (result : Result LimitsModel Verdict) →
+pub limits_stop : {S : Type 0} (is_load : LoadsOf S) (chip : SocValue) (name : List ℕ) (first last : S) (verdict : Verdict) (result : Result Bounds Verdict) →
     LoadsFile is_load Limits name first (Err verdict) last → result ≡ Err verdict → LoadsBounds is_load chip name first result last
 limits_stop is_load chip name first last verdict result d is = rw is (any_refusal is_load Limits (RefusesLimits chip) name first last verdict d)
 
@@ -90,23 +90,23 @@ plan_load_checked is_load chip bounds name bytes first last value (Err verdict) 
 -- ---- several files
 
 -- the loads stop at the chip, or at the limits
-pub two_without_chip : {S : Type 0} (is_load : LoadsOf S) (soc limits : List ℕ) (first last : S) (verdict : Verdict) (result : Result Both Verdict) →
+pub two_without_chip : {S : Type 0} (is_load : LoadsOf S) (soc limits : List ℕ) (first last : S) (verdict : Verdict) (result : Result ProblemValue Verdict) →
     LoadsSoc is_load soc first (Err verdict) last → result ≡ Err verdict → LoadsTwo is_load soc limits first result last
 two_without_chip is_load soc limits first last verdict result d is =
     rw is (of_weaker (λ status text. StopsAt is_load Soc RefusesChip soc first status text last) (λ status text. StopsAtBoth is_load soc limits first status text last) verdict (λ status text s. inl s) d)
 
-pub two_without_limits : {S : Type 0} (is_load : LoadsOf S) (soc limits : List ℕ) (chip : SocValue) (first mid last : S) (verdict : Verdict) (result : Result Both Verdict) →
+pub two_without_limits : {S : Type 0} (is_load : LoadsOf S) (soc limits : List ℕ) (chip : SocValue) (first mid last : S) (verdict : Verdict) (result : Result ProblemValue Verdict) →
     IsLoaded is_load Soc SaysChip soc chip first mid → LoadsBounds is_load chip limits mid (Err verdict) last → result ≡ Err verdict → LoadsTwo is_load soc limits first result last
 two_without_limits is_load soc limits chip first mid last verdict result load d is =
     rw is (of_weaker (λ status text. StopsAt is_load Limits (RefusesLimits chip) limits mid status text last) (λ status text. StopsAtBoth is_load soc limits first status text last) verdict (λ status text s. inr (chip, mid, load, s)) d)
 
 -- and so with the plan
-pub three_without_both : {S : Type 0} (is_load : LoadsOf S) (soc limits plan : List ℕ) (first last : S) (verdict : Verdict) (result : Result Accepted Verdict) →
+pub three_without_both : {S : Type 0} (is_load : LoadsOf S) (soc limits plan : List ℕ) (first last : S) (verdict : Verdict) (result : Result AcceptedValue Verdict) →
     LoadsTwo is_load soc limits first (Err verdict) last → result ≡ Err verdict → LoadsThree is_load soc limits plan first result last
 three_without_both is_load soc limits plan first last verdict result d is =
     rw is (of_weaker (λ status text. StopsAtBoth is_load soc limits first status text last) (λ status text. StopsAtAll is_load soc limits plan first status text last) verdict (λ status text s. inl s) d)
 
-pub three_without_plan : {S : Type 0} (is_load : LoadsOf S) (soc limits plan : List ℕ) (chip : SocValue) (bounds : LimitsValue) (first mid last : S) (verdict : Verdict) (result : Result Accepted Verdict) →
+pub three_without_plan : {S : Type 0} (is_load : LoadsOf S) (soc limits plan : List ℕ) (chip : SocValue) (bounds : LimitsValue) (first mid last : S) (verdict : Verdict) (result : Result AcceptedValue Verdict) →
     AreLoaded is_load soc limits chip bounds first mid → LoadsPlan is_load chip bounds plan mid (Err verdict) last → result ≡ Err verdict → LoadsThree is_load soc limits plan first result last
 three_without_plan is_load soc limits plan chip bounds first mid last verdict result load d is =
     rw is (of_weaker (λ status text. StopsAt is_load Plan (RefusesPlan chip bounds) plan mid status text last) (λ status text. StopsAtAll is_load soc limits plan first status text last) verdict (λ status text s. inr (chip, bounds, mid, load, s)) d)

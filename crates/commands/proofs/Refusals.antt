@@ -1,25 +1,21 @@
 -- What the readers and the checker refuse, from the file on.
-use Rattle.std.proofs.Common.{◌≡◌, ◌∙◌, ℕ, ◌≤◌, inl, inr, List, Option, Some, Result, Ok, Err, IfOk, length, refl, sym, subst}
-use Rattle.std.specs.Prelude.{IsTrue}
+use Rattle.std.proofs.Common.{◌≡◌, ◌∙◌, ℕ, ◌≤◌, inl, inr, List, Option, Some, Result, Ok, Err, IfOk, length, refl, sym, subst, IsTrue}
 use Rattle.std.specs.Global.{Vec}
 use Rattle.outside.specs.declared.NoMemory.{NoMemory as MemoryFault}
 use Rattle.outside.specs.Held.{Files, WhereTold}
 use Rattle.soc_model.specs.declared.Soc.{Soc as SocModel}
 use Rattle.soc_model.specs.Chips.{SocValue}
-use Rattle.plan_model.specs.declared.Limits.{Limits as LimitsModel}
+use Rattle.commands.specs.declared.loading.Bounds.{Bounds}
 use Rattle.plan_model.specs.declared.Plan.{Plan as PlanModel}
 use Rattle.plan_model.specs.Plans.{LimitsValue, PlanValue}
 use Rattle.plan_model.specs.Faults.{FaultValue, IsFault, IsFaultless}
 use Rattle.plan_model.specs.Views.{plan_value}
 use Rattle.soc_reader.specs.declared.SocFault.{SocFault}
-use Rattle.soc_reader.specs.declared.SocFault.TheVariants as soc_fault
 use Rattle.soc_reader.specs.ChipForm.{SaysChip}
 use Rattle.soc_reader.specs.Refusals.{Refuses}
 use Rattle.limits_text.specs.declared.LimFault.{LimFault}
-use Rattle.limits_text.specs.declared.LimFault.TheVariants as limits_fault
 use Rattle.limits_text.specs.Answers.{LimitsRead, refused_line, unknown_line, shown_loop, passing_power}
 use Rattle.plan_text.specs.declared.PlanTextFault.{PlanTextFault}
-use Rattle.plan_text.specs.declared.PlanTextFault.TheVariants as plan_fault
 use Rattle.plan_text.specs.Answers.{SaysPlan, PlanRead}
 use Rattle.commands.specs.declared.FileKind.TheVariants.{Soc, Limits, Plan}
 use Rattle.commands.specs.declared.Status.TheVariants.{Refused}
@@ -30,13 +26,16 @@ use Rattle.commands.specs.Readings.{most_of, RefusesChip, SaysLimits, RefusesLim
 use Rattle.commands.specs.Procedures.{nothing, with_chip, with_limits, with_accepted}
 use Rattle.commands.specs.Decides.{Follows, RefusesSoc, RefusesBounds, RefusesValue, AnswersCheck, GivesText, LoadsBytes, LoadsChip, LoadsLimits, LoadsAccepted}
 use Rattle.commands.proofs.FileStages.{without_bytes, refused, read_from}
+use Rattle.soc_reader.specs.declared.SocFault.TheVariants as soc_fault
+use Rattle.limits_text.specs.declared.LimFault.TheVariants as limits_fault
+use Rattle.plan_text.specs.declared.PlanTextFault.TheVariants as plan_fault
 
 -- ---- files whose bytes aren't there
 
 pub chip_unread : (name : List ℕ) (held : Option Files) (before after : ℕ) (verdict : Verdict) (result : Result SocModel Verdict) → LoadsBytes Soc name held before after (Err verdict) → result ≡ Err verdict → LoadsChip name held before after result
 chip_unread name held before after verdict result none is = rw is (without_bytes Soc SaysChip RefusesChip name held before after verdict none)
 
-pub limits_unread : (chip : SocValue) (name : List ℕ) (held : Option Files) (before after : ℕ) (verdict : Verdict) (result : Result LimitsModel Verdict) → LoadsBytes Limits name held before after (Err verdict) → result ≡ Err verdict → LoadsLimits chip name held before after result
+pub limits_unread : (chip : SocValue) (name : List ℕ) (held : Option Files) (before after : ℕ) (verdict : Verdict) (result : Result Bounds Verdict) → LoadsBytes Limits name held before after (Err verdict) → result ≡ Err verdict → LoadsLimits chip name held before after result
 limits_unread chip name held before after verdict result none is = rw is (without_bytes Limits (SaysLimits chip) (RefusesLimits chip) name held before after verdict none)
 
 pub plan_unread : (chip : SocValue) (bounds : LimitsValue) (name : List ℕ) (held : Option Files) (before after : ℕ) (verdict : Verdict) (result : Result PlanModel Verdict) → LoadsBytes Plan name held before after (Err verdict) → result ≡ Err verdict → LoadsAccepted chip bounds name held before after result

@@ -1,6 +1,5 @@
 -- Words and the commands that they are, computed.
-use Rattle.std.proofs.Common.{◌≡◌, [], ◌∷◌, None, Some, refl}
-use Rattle.std.specs.Prelude.{codes}
+use Rattle.std.proofs.Common.{◌≡◌, [], ◌∷◌, None, Some, refl, codes}
 use Rattle.commands.specs.Commands.{Widths, Sample, command_of, with_one, with_two}
 
 widths_row : command_of (codes "widths" ∷ codes "a.soc" ∷ codes "004" ∷ []) ≡ Some (Widths (codes "a.soc") 4)

@@ -1,6 +1,5 @@
 -- The files give at most one answer to a procedure, and an unread file gives none.
-use Rattle.std.proofs.Common.{◌≡◌, ℕ, ◌⊎◌, inl, inr, List, Option, None, Some, Bool, true, false, length, sym, ◌∙◌, subst}
-use Rattle.std.specs.Prelude.{nat_lt, MatchBool}
+use Rattle.std.proofs.Common.{◌≡◌, ℕ, ◌⊎◌, inl, inr, List, Option, None, Some, Bool, true, false, length, sym, ◌∙◌, subst, nat_lt, MatchBool}
 use Rattle.std.specs.FinMap.{get}
 use Rattle.std.proofs.lemmas.Bool.{le-ltb}
 use Rattle.outside.specs.Held.{Files, Rose}

@@ -1,6 +1,5 @@
 -- A plan that is printed or accepted runs right, its bound is one, and it is for the chip and the limits in the held files.
-use Rattle.std.proofs.Common.{◌≡◌, ℕ, ◌≤◌, ◌⊎◌, inl, inr, List, Option, None, Some, Bool, true, false, length, refl}
-use Rattle.std.specs.Prelude.{nat_lt, MatchBool}
+use Rattle.std.proofs.Common.{◌≡◌, ℕ, ◌≤◌, ◌⊎◌, inl, inr, List, Option, None, Some, Bool, true, false, length, refl, nat_lt, MatchBool}
 use Rattle.std.specs.FinMap.{get}
 use Rattle.std.proofs.lemmas.Bool.{ltb-false}
 use Rattle.outside.specs.Held.{Files, Appended}

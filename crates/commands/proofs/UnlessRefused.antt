@@ -1,6 +1,5 @@
 -- A text that is answered and written unless a line refuses it.
-use Rattle.std.proofs.Common.{◌≡◌, ◌≢◌, ℕ, inl, inr, List, Option, None, Some, IfSome, refl, sym, subst, ◌∙◌}
-use Rattle.std.specs.Prelude.{IsTrue}
+use Rattle.std.proofs.Common.{◌≡◌, ◌≢◌, ℕ, inl, inr, List, Option, None, Some, IfSome, refl, sym, subst, ◌∙◌, IsTrue}
 use Rattle.std.specs.FinMap.{get}
 use Rattle.outside.specs.Held.{Files}
 use Rattle.soc_model.specs.Chips.{SocValue, soc_value}
@@ -12,7 +11,7 @@ use Rattle.commands.specs.declared.Status.{Status}
 use Rattle.commands.specs.declared.Status.TheVariants.{Done, Refused, BadWords, WriteFault, NoMemory}
 use Rattle.commands.specs.declared.Verdict.{Verdict}
 use Rattle.commands.specs.declared.Verdict.TheVariants.{Answered, CannotRead, NoMemory as OutOfMemory}
-use Rattle.commands.specs.declared.loading.Accepted.{Accepted}
+use Rattle.commands.specs.AcceptedPlans.{AcceptedValue}
 use Rattle.commands.specs.Answers.{Answers}
 use Rattle.commands.specs.Decides.{AreRead, Refuses}
 use Rattle.commands.specs.Ends.{IsCommand, MayUnless, IsWritten, Writes, WritesUnless, MayAnswer, Ends, OneLine, EndsByWords}
@@ -25,17 +24,17 @@ use Rattle.commands.proofs.Written.{ends_text}
 -- ---- what may be answered
 
 -- what comes after all three files is answered from the first file on
-pub all_answers : (soc limits plan : List ℕ) (next : SocValue → LimitsValue → PlanValue → Procedure) (held : Option Files) (all : Accepted) (status : Status) (text : List ℕ) → IfSome held (λ files. AreRead files soc limits plan all) →
-    ((files : Files) → Answers (next (soc_value all.soc) (limits_value all.limits) (plan_value all.plan)) files status text) → IfSome held (λ files. Answers (with_all soc limits plan next) files status text)
+pub all_answers : (soc limits plan : List ℕ) (next : SocValue → LimitsValue → PlanValue → Procedure) (held : Option Files) (all : AcceptedValue) (status : Status) (text : List ℕ) → IfSome held (λ files. AreRead files soc limits plan all) →
+    ((files : Files) → Answers (next all.soc all.limits all.plan) files status text) → IfSome held (λ files. Answers (with_all soc limits plan next) files status text)
 all_answers soc limits plan next None all status text read answers = tt
 all_answers soc limits plan next (Some files) all status text read answers =
-    go_on Soc SaysChip RefusesChip (λ chip. Answers (with_limits chip limits (λ bounds. with_accepted chip bounds plan (next chip bounds))) files) (get files soc) (soc_value all.soc) status text read.chip
-    (go_on Limits (SaysLimits (soc_value all.soc)) (RefusesLimits (soc_value all.soc)) (λ bounds. Answers (with_accepted (soc_value all.soc) bounds plan (next (soc_value all.soc) bounds)) files) (get files limits) (limits_value all.limits) status text read.bounds
-    (go_on Plan (SaysAccepted (soc_value all.soc) (limits_value all.limits)) (RefusesPlan (soc_value all.soc) (limits_value all.limits)) (λ value. Answers (next (soc_value all.soc) (limits_value all.limits) value) files) (get files plan) (plan_value all.plan) status text read.value (answers files)))
+    go_on Soc SaysChip RefusesChip (λ chip. Answers (with_limits chip limits (λ bounds. with_accepted chip bounds plan (next chip bounds))) files) (get files soc) all.soc status text read.chip
+    (go_on Limits (SaysLimits all.soc) (RefusesLimits all.soc) (λ bounds. Answers (with_accepted all.soc bounds plan (next all.soc bounds)) files) (get files limits) all.limits status text read.bounds
+    (go_on Plan (SaysAccepted all.soc all.limits) (RefusesPlan all.soc all.limits) (λ value. Answers (next all.soc all.limits value) files) (get files plan) all.plan status text read.value (answers files)))
 
 -- the line that refuses, or else the text, may be answered
-pub may_unless : (soc limits plan : List ℕ) (next : SocValue → LimitsValue → PlanValue → Procedure) (held : Option Files) (all : Accepted) (refusal : Option (List ℕ)) (text : List ℕ) → IfSome held (λ files. AreRead files soc limits plan all) →
-    next (soc_value all.soc) (limits_value all.limits) (plan_value all.plan) ≡ Unless refusal (Answer (λ status answer. (status ≡ Done) × (answer ≡ text))) → MayUnless (with_all soc limits plan next) held refusal text
+pub may_unless : (soc limits plan : List ℕ) (next : SocValue → LimitsValue → PlanValue → Procedure) (held : Option Files) (all : AcceptedValue) (refusal : Option (List ℕ)) (text : List ℕ) → IfSome held (λ files. AreRead files soc limits plan all) →
+    next all.soc all.limits all.plan ≡ Unless refusal (Answer (λ status answer. (status ≡ Done) × (answer ≡ text))) → MayUnless (with_all soc limits plan next) held refusal text
 may_unless soc limits plan next held all None text read is =
     all_answers soc limits plan next held all Done text read (λ files. subst (λ steps. Answers steps files Done text) (sym is) (refl, refl))
 may_unless soc limits plan next held all (Some line) text read is =

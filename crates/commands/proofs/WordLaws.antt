@@ -1,6 +1,5 @@
 -- Words and the commands that they are.
-use Rattle.std.proofs.Common.{◌≡◌, ℕ, ◌≤◌, List, Option, None, Some, IfSome, refl, ap, ◌∙◌, subst, arith}
-use Rattle.std.specs.Prelude.{decimal, option_map}
+use Rattle.std.proofs.Common.{◌≡◌, ℕ, ◌≤◌, List, Option, None, Some, IfSome, refl, ap, ◌∙◌, subst, arith, decimal, option_map}
 use Rattle.std.proofs.lemmas.Bool.{le-leb}
 use Rattle.outside.specs.Decimal.{number_of}
 use Rattle.outside.proofs.DecimalLemmas.{number_of-decimal}

@@ -1,6 +1,5 @@
 -- What is written of a verdict is an answer to what was asked for, each status where its cause is.
-use Rattle.std.proofs.Common.{◌≡◌, ◌≢◌, ℕ, inl, inr, List, Option, None, Some, refl, sym, ◌∙◌, subst}
-use Rattle.std.specs.Prelude.{IsTrue}
+use Rattle.std.proofs.Common.{◌≡◌, ◌≢◌, ℕ, inl, inr, List, Option, None, Some, refl, sym, ◌∙◌, subst, IsTrue}
 use Rattle.std.specs.Global.{Vec}
 use Rattle.outside.specs.Held.{Files, Rose, Appended}
 use Rattle.commands.specs.declared.FileKind.{FileKind}

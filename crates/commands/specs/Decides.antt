@@ -6,9 +6,9 @@ use Rattle.outside.specs.declared.NoMemory.{NoMemory as MemoryFault}
 use Rattle.outside.specs.Held.{Files, Rose, IsMissing, WhereTold}
 use Rattle.soc_model.specs.declared.Soc.{Soc as SocModel}
 use Rattle.soc_model.specs.Chips.{SocValue, soc_value}
-use Rattle.plan_model.specs.declared.Limits.{Limits as LimitsModel}
 use Rattle.plan_model.specs.declared.Plan.{Plan as PlanModel}
 use Rattle.plan_model.specs.Plans.{LimitsValue, PlanValue}
+use Rattle.live_tests.specs.Problems.{ProblemValue}
 use Rattle.plan_model.specs.Faults.{FaultValue, IsFault, IsFaultless}
 use Rattle.plan_model.specs.Views.{limits_value, plan_value}
 use Rattle.soc_reader.specs.declared.SocFault.{SocFault}
@@ -24,8 +24,8 @@ use Rattle.commands.specs.declared.Status.{Status}
 use Rattle.commands.specs.declared.Status.TheVariants.{Done, Refused, BadWords, ReadFault, WriteFault, NoMemory}
 use Rattle.commands.specs.declared.Verdict.{Verdict}
 use Rattle.commands.specs.declared.Verdict.TheVariants.{Answered, CannotRead, NoMemory as OutOfMemory}
-use Rattle.commands.specs.declared.loading.Both.{Both}
-use Rattle.commands.specs.declared.loading.Accepted.{Accepted}
+use Rattle.commands.specs.declared.loading.Bounds.{Bounds}
+use Rattle.commands.specs.AcceptedPlans.{AcceptedValue}
 use Rattle.commands.specs.Texts.{is_line, bad_words_line, chip_line, chip_limit_line, limits_line, unknown_test_line, loop_line, test_power_line, plan_line, fault_line}
 use Rattle.commands.specs.Readings.{most_of, IsRead, SaysLimits, SaysAccepted}
 use Rattle.commands.specs.Procedures.{Procedure, Read, Unless, Answer, NoCommand, nothing, with_bytes, with_chip, with_limits, with_accepted, with_both, with_all}
@@ -96,9 +96,9 @@ LoadsChip soc held before after (Ok chip) = IfSome held (λ files. IsRead Soc Sa
 LoadsChip soc held before after (Err verdict) = Follows (with_chip soc (λ chip. nothing)) held before after verdict
 
 -- and so limits for a chip
-abbrev pub LoadsLimits : SocValue → (limits : List ℕ) → Option Files → ℕ → ℕ → Result LimitsModel Verdict → Type 0
+abbrev pub LoadsLimits : SocValue → (limits : List ℕ) → Option Files → ℕ → ℕ → Result Bounds Verdict → Type 0
 LoadsLimits chip limits held before after (Ok bounds) =
-    IfSome held (λ files. IsRead Limits (SaysLimits chip) (get files limits) (limits_value bounds))
+    IfSome held (λ files. IsRead Limits (SaysLimits chip) (get files limits) (limits_value bounds.limits))
 LoadsLimits chip limits held before after (Err verdict) = Follows (with_limits chip limits (λ bounds. nothing)) held before after verdict
 
 -- and so a plan that is accepted for a chip under limits
@@ -109,23 +109,23 @@ LoadsAccepted chip bounds plan held before after (Err verdict) =
     Follows (with_accepted chip bounds plan (λ value. nothing)) held before after verdict
 
 -- a chip and limits for it, both read from these files
-pub record BothRead (files : Files) (soc limits : List ℕ) (both : Both) : Type 0 where
-  pub chip : IsRead Soc SaysChip (get files soc) (soc_value both.soc)
-  pub bounds : IsRead Limits (SaysLimits (soc_value both.soc)) (get files limits) (limits_value both.limits)
+pub record BothRead (files : Files) (soc limits : List ℕ) (both : ProblemValue) : Type 0 where
+  pub chip : IsRead Soc SaysChip (get files soc) both.soc
+  pub bounds : IsRead Limits (SaysLimits both.soc) (get files limits) both.limits
 
 -- both, or a verdict without them
-abbrev pub LoadsBoth : (soc limits : List ℕ) → Option Files → ℕ → ℕ → Result Both Verdict → Type 0
+abbrev pub LoadsBoth : (soc limits : List ℕ) → Option Files → ℕ → ℕ → Result ProblemValue Verdict → Type 0
 LoadsBoth soc limits held before after (Ok both) = IfSome held (λ files. BothRead files soc limits both)
 LoadsBoth soc limits held before after (Err verdict) = Follows (with_both soc limits (λ chip bounds. nothing)) held before after verdict
 
 -- a chip, limits for it and a plan that is accepted, all read from these files
-pub record AreRead (files : Files) (soc limits plan : List ℕ) (all : Accepted) : Type 0 where
-  pub chip : IsRead Soc SaysChip (get files soc) (soc_value all.soc)
-  pub bounds : IsRead Limits (SaysLimits (soc_value all.soc)) (get files limits) (limits_value all.limits)
-  pub value : IsRead Plan (SaysAccepted (soc_value all.soc) (limits_value all.limits)) (get files plan) (plan_value all.plan)
+pub record AreRead (files : Files) (soc limits plan : List ℕ) (all : AcceptedValue) : Type 0 where
+  pub chip : IsRead Soc SaysChip (get files soc) all.soc
+  pub bounds : IsRead Limits (SaysLimits all.soc) (get files limits) all.limits
+  pub value : IsRead Plan (SaysAccepted all.soc all.limits) (get files plan) all.plan
 
 -- all three, or a verdict without them
-abbrev pub LoadsAll : (soc limits plan : List ℕ) → Option Files → ℕ → ℕ → Result Accepted Verdict → Type 0
+abbrev pub LoadsAll : (soc limits plan : List ℕ) → Option Files → ℕ → ℕ → Result AcceptedValue Verdict → Type 0
 LoadsAll soc limits plan held before after (Ok all) = IfSome held (λ files. AreRead files soc limits plan all)
 LoadsAll soc limits plan held before after (Err verdict) =
     Follows (with_all soc limits plan (λ chip bounds value. nothing)) held before after verdict

@@ -1,7 +1,9 @@
+pub mod AcceptedPlans
 pub mod Answers
 pub mod Commands
 pub mod Decides
 pub mod Ends
+pub mod Endings
 pub mod Loads
 pub mod Procedures
 pub mod Progress

@@ -6,9 +6,9 @@ use Rattle.outside.specs.declared.shelf.Loaded.{Loaded}
 use Rattle.outside.specs.declared.shelf.Loaded.TheVariants as loaded
 use Rattle.soc_model.specs.declared.Soc.{Soc as SocModel}
 use Rattle.soc_model.specs.Chips.{SocValue, soc_value}
-use Rattle.plan_model.specs.declared.Limits.{Limits as LimitsModel}
 use Rattle.plan_model.specs.declared.Plan.{Plan as PlanModel}
 use Rattle.plan_model.specs.Plans.{LimitsValue, PlanValue}
+use Rattle.live_tests.specs.Problems.{ProblemValue}
 use Rattle.plan_model.specs.Views.{limits_value, plan_value}
 use Rattle.soc_reader.specs.ChipForm.{SaysChip}
 use Rattle.commands.specs.declared.FileKind.{FileKind}
@@ -17,8 +17,8 @@ use Rattle.commands.specs.declared.Status.{Status}
 use Rattle.commands.specs.declared.Status.TheVariants.{Done, Refused, BadWords, ReadFault, TooLong, NoMemory}
 use Rattle.commands.specs.declared.Verdict.{Verdict}
 use Rattle.commands.specs.declared.Verdict.TheVariants.{Answered, CannotRead, NoMemory as OutOfMemory}
-use Rattle.commands.specs.declared.loading.Both.{Both}
-use Rattle.commands.specs.declared.loading.Accepted.{Accepted}
+use Rattle.commands.specs.declared.loading.Bounds.{Bounds}
+use Rattle.commands.specs.AcceptedPlans.{AcceptedValue}
 use Rattle.commands.specs.Texts.{bad_words_line, unread_line, too_long_line}
 use Rattle.commands.specs.Readings.{most_of, RefusesChip, SaysLimits, RefusesLimits, SaysAccepted, RefusesPlan}
 use Rattle.commands.specs.Procedures.{Procedure, Read, Unless, Answer, NoCommand}
@@ -138,9 +138,9 @@ LoadsSoc is_load soc first (Ok chip) last = IsLoaded is_load Soc SaysChip soc (s
 LoadsSoc is_load soc first (Err verdict) last =
     OfVerdict (λ status text. StopsAt is_load Soc RefusesChip soc first status text last) verdict
 
-abbrev pub LoadsBounds : {S : Type 0} → LoadsOf S → SocValue → (limits : List ℕ) → S → Result LimitsModel Verdict → S → Type 0
+abbrev pub LoadsBounds : {S : Type 0} → LoadsOf S → SocValue → (limits : List ℕ) → S → Result Bounds Verdict → S → Type 0
 LoadsBounds is_load chip limits first (Ok bounds) last =
-    IsLoaded is_load Limits (SaysLimits chip) limits (limits_value bounds) first last
+    IsLoaded is_load Limits (SaysLimits chip) limits (limits_value bounds.limits) first last
 LoadsBounds is_load chip limits first (Err verdict) last =
     OfVerdict (λ status text. StopsAt is_load Limits (RefusesLimits chip) limits first status text last) verdict
 
@@ -150,14 +150,14 @@ LoadsPlan is_load chip bounds plan first (Ok value) last =
 LoadsPlan is_load chip bounds plan first (Err verdict) last =
     OfVerdict (λ status text. StopsAt is_load Plan (RefusesPlan chip bounds) plan first status text last) verdict
 
-abbrev pub LoadsTwo : {S : Type 0} → LoadsOf S → (soc limits : List ℕ) → S → Result Both Verdict → S → Type 0
+abbrev pub LoadsTwo : {S : Type 0} → LoadsOf S → (soc limits : List ℕ) → S → Result ProblemValue Verdict → S → Type 0
 LoadsTwo is_load soc limits first (Ok both) last =
-    AreLoaded is_load soc limits (soc_value both.soc) (limits_value both.limits) first last
+    AreLoaded is_load soc limits both.soc both.limits first last
 LoadsTwo is_load soc limits first (Err verdict) last =
     OfVerdict (λ status text. StopsAtBoth is_load soc limits first status text last) verdict
 
-abbrev pub LoadsThree : {S : Type 0} → LoadsOf S → (soc limits plan : List ℕ) → S → Result Accepted Verdict → S → Type 0
+abbrev pub LoadsThree : {S : Type 0} → LoadsOf S → (soc limits plan : List ℕ) → S → Result AcceptedValue Verdict → S → Type 0
 LoadsThree is_load soc limits plan first (Ok all) last =
-    AllLoaded is_load soc limits plan (soc_value all.soc) (limits_value all.limits) (plan_value all.plan) first last
+    AllLoaded is_load soc limits plan all.soc all.limits all.plan first last
 LoadsThree is_load soc limits plan first (Err verdict) last =
     OfVerdict (λ status text. StopsAtAll is_load soc limits plan first status text last) verdict

@@ -17,8 +17,8 @@ pub use lines::{
     less_line, limit_word, numbered, push_decimal, push_test, push_text, push_two, run_line,
 };
 pub use loading::{
-    Accepted, Both, answered_with, bad_words, load_accepted_plan, load_all, load_both, load_chip,
-    load_file, load_limits, refused_with,
+    Accepted, Both, answered_with, bad_words, load_all, load_both, load_chip, load_file,
+    refused_with,
 };
 pub use progress::{REPORTS, line_room, report_line};
 pub use top_calls::{TopCall, top_call};

@@ -1,11 +1,12 @@
 //! Loads and reads the files of a command, each only where the ones before it are taken.
-ghost use Rattle.std.specs.Prelude.{◌≡◌, ◌≤◌, IfOk, IfSome};
+ghost use Rattle.std.specs.Prelude.{◌≡◌, ◌≤◌, Ok, Err, IfErr, IfOk};
 ghost use Rattle.soc_model.specs.Chips.{soc_value};
 ghost use Rattle.soc_model.specs.SoundChips.{IsSoundChip};
 ghost use Rattle.plan_model.specs.Faults.{IsFaultless};
-ghost use Rattle.plan_model.specs.Rules.{live_ids};
 ghost use Rattle.plan_model.specs.Views.{limits_value, plan_value};
 ghost use Rattle.plan_model.specs.SoundLimits.{IsSoundLimits};
+ghost use Rattle.live_tests.specs.Resolved.{IsResolved};
+ghost use Rattle.limits_text.specs.Answers.{LimitsRead};
 ghost use Rattle.plan_text.specs.Grammar.{AreSmallStarts};
 ghost use Rattle.commands.specs.declared.Status.TheVariants.{Refused, BadWords};
 ghost use Rattle.commands.specs.Texts.{bad_words_line};
@@ -18,8 +19,8 @@ use crate::lines::{
     too_long_line, unknown_test_line,
 };
 use crate::{DATA_FILE_MOST, FILE_MOST, FileKind, PLAN_FILE_MOST, Status, Verdict};
-use limits_text::{LimFault, read_limits_with};
-use live_tests::LiveTests;
+use limits_text::{LimFault, read_limits_with, resolved_of};
+use live_tests::{Problem, Resolved};
 use outside::{Loaded, NoMemory, Shelf};
 use plan_checker::first_fault;
 use plan_model::{Limits, Plan};
@@ -27,14 +28,40 @@ use plan_text::{PlanTextFault, read_plan};
 use soc_model::{Soc, SocLimit};
 use soc_reader::{SocFault, read_soc};
 use std::alloc::Global;
+use std::marker::Model;
 
-/// A chip and limits for it.
+/// A chip and limits for it, resolved by place. Both are sound.
 #[derive(Drop)]
 pub struct Both {
     pub soc: Soc,
     pub limits: Limits,
-    /// The live tests of the chip by name, where reading the limits noted them ([`limits_text::noted_tests`]).
-    pub live: Option<LiveTests>,
+    pub resolved: Resolved,
+}
+
+impl Model for Both {
+    ghost use Rattle.soc_model.specs.Chips.{soc_value};
+    ghost use Rattle.plan_model.specs.Views.{limits_value};
+    ghost use Rattle.live_tests.specs.Problems.{IsProblem, ProblemValue};
+
+    ghost Value = { ProblemValue };
+
+    ghost view = { λ b. record { soc = soc_value b.soc; limits = limits_value b.limits } };
+
+    ghost invariant = { λ b. IsProblem b.soc b.limits b.resolved };
+}
+
+impl Both {
+    /// What is asked: the chip and its limits, lent.
+    pub fn problem(&self) -> Problem<'_>
+        ensures { result ≡ self.now }
+    {
+        Problem::new(&self.soc, &self.limits, &self.resolved)
+    }
+
+    /// Frees what was read. (A caller that frees it otherwise is proved for each of its parts anew.)
+    pub fn free(self) {
+        drop(self);
+    }
 }
 
 /// A chip, limits for it, and a plan that is accepted for both.
@@ -42,19 +69,31 @@ pub struct Both {
 pub struct Accepted {
     pub soc: Soc,
     pub limits: Limits,
+    pub resolved: Resolved,
     pub plan: Plan,
-    /// The live tests of the chip by name, as in [`Both`].
-    pub live: Option<LiveTests>,
 }
 
-impl Both {
-    /// Frees what was read. (A caller that frees it otherwise is proved for each of its parts anew.)
-    pub fn free(self) {
-        drop(self);
-    }
+impl Model for Accepted {
+    ghost use Rattle.soc_model.specs.Chips.{soc_value};
+    ghost use Rattle.plan_model.specs.Views.{limits_value, plan_value};
+    ghost use Rattle.commands.specs.AcceptedPlans.{AcceptedValue, IsAccepted};
+
+    ghost Value = { AcceptedValue };
+
+    ghost view = { λ a. record { soc = soc_value a.soc; limits = limits_value a.limits; plan = plan_value a.plan } };
+
+    ghost invariant = { λ a. IsAccepted a.soc a.limits a.resolved a.plan };
 }
 
 impl Accepted {
+    /// What the plan was made for: the chip and its limits, lent.
+    pub fn problem(&self) -> Problem<'_>
+        ensures chip { result.soc ≡ self.now.soc }
+        ensures limits { result.limits ≡ self.now.limits }
+    {
+        Problem::new(&self.soc, &self.limits, &self.resolved)
+    }
+
     /// Frees what was read, as [`Both::free`].
     pub fn free(self) {
         drop(self);
@@ -174,27 +213,43 @@ fn refused_limits(alloc: Global, fault: LimFault) -> Verdict
     }
 }
 
-/// Loads and reads limits for a chip, else how the command ends. The live tests of the chip are noted where the limits name a
-/// test and they aren't at hand.
-pub fn load_limits<H: Shelf>(
+/// Limits for a chip, and what both say by place.
+#[derive(Drop)]
+pub(crate) struct Bounds {
+    pub(crate) limits: Limits,
+    pub(crate) resolved: Resolved,
+}
+
+/// The limits that bytes say for a chip, resolved with it once. The live tests that were noted to read them are taken for that.
+fn read_bounds(alloc: Global, bytes: &[u8], soc: &Soc) -> Result<Bounds, LimFault>
+    ensures read { IfOk result (λ bounds. LimitsRead bytes.now (soc_value soc.now) (Ok bounds.limits)) }
+    ensures refused { IfErr result (λ fault. LimitsRead bytes.now (soc_value soc.now) (Err fault)) }
+    ensures resolved { IfOk result (λ bounds. IsResolved (soc_value soc.now) bounds.limits bounds.resolved) }
+{
+    let mut live = None;
+    let limits = read_limits_with(alloc, bytes, soc, &mut live)?;
+    let resolved = resolved_of(alloc, soc, &limits, live)?;
+    Ok(Bounds { limits, resolved })
+}
+
+/// Loads and reads limits for a chip, else how the command ends.
+fn load_limits<H: Shelf>(
     alloc: Global,
     soc: &Soc,
-    live: &mut Option<LiveTests>,
     name: &str,
     shelf: &mut H,
-) -> Result<Limits, Verdict>
-    requires { IfSome live.old (λ tests. tests ≡ live_ids (soc_value soc.now)) }
+) -> Result<Bounds, Verdict>
     ensures held_stays { H.held shelf.new ≡ H.held shelf.old }
     ensures faults_never_fall { H.faults shelf.old ≤ H.faults shelf.new }
-    ensures sound { IfOk result (λ limits. IsSoundLimits (soc_value soc.now) (limits_value limits)) }
-    ensures noted { IfSome live.new (λ tests. tests ≡ live_ids (soc_value soc.now)) }
+    ensures sound { IfOk result (λ bounds. IsSoundLimits (soc_value soc.now) (limits_value bounds.limits)) }
+    ensures resolved { IfOk result (λ bounds. IsResolved (soc_value soc.now) bounds.limits bounds.resolved) }
     ensures loads { LoadsLimits (soc_value soc.now) name.now (H.held shelf.old) (H.faults shelf.old) (H.faults shelf.new) result }
     ensures by_loads { LoadsBounds H.is_load (soc_value soc.now)
         name.now shelf.old result shelf.new }
 {
     let bytes = load_file(alloc, FileKind::Limits, name, shelf)?;
-    match read_limits_with(alloc, bytes.as_slice(), soc, live) {
-        Ok(limits) => Ok(limits),
+    match read_bounds(alloc, bytes.as_slice(), soc) {
+        Ok(bounds) => Ok(bounds),
         Err(fault) => Err(refused_limits(alloc, fault)),
     }
 }
@@ -223,28 +278,48 @@ fn checked(alloc: Global, soc: &Soc, limits: &Limits, plan: Plan) -> Result<Plan
     }
 }
 
+/// The plan where it is accepted for a chip and its limits, else the answer to its fault.
+fn accepted_plan(alloc: Global, both: &Both, plan: Plan) -> Result<Plan, Verdict>
+    requires { AreSmallStarts (plan_value plan).starts }
+    ensures { AnswersCheck both.now.soc both.now.limits (plan_value plan) result }
+{
+    checked(alloc, &both.soc, &both.limits, plan)
+}
+
 /// Loads and reads a plan for a chip under limits and checks it, else how the command ends.
-pub fn load_accepted_plan<H: Shelf>(
+fn load_accepted_plan<H: Shelf>(
     alloc: Global,
-    soc: &Soc,
-    limits: &Limits,
+    both: &Both,
     name: &str,
     shelf: &mut H,
 ) -> Result<Plan, Verdict>
-    requires chip { IsSoundChip (soc_value soc.now) }
-    requires limits { IsSoundLimits (soc_value soc.now) (limits_value limits.now) }
     ensures held_stays { H.held shelf.new ≡ H.held shelf.old }
     ensures faults_never_fall { H.faults shelf.old ≤ H.faults shelf.new }
-    ensures accepted { IfOk result (λ plan. IsFaultless (soc_value soc.now) (limits_value limits.now) (plan_value plan)) }
-    ensures loads { LoadsAccepted (soc_value soc.now) (limits_value limits.now) name.now (H.held shelf.old) (H.faults shelf.old)
+    ensures accepted { IfOk result (λ plan. IsFaultless both.now.soc both.now.limits (plan_value plan)) }
+    ensures loads { LoadsAccepted both.now.soc both.now.limits name.now (H.held shelf.old) (H.faults shelf.old)
         (H.faults shelf.new) result }
-    ensures by_loads { LoadsPlan H.is_load (soc_value soc.now) (limits_value limits.now)
+    ensures by_loads { LoadsPlan H.is_load both.now.soc both.now.limits
         name.now shelf.old result shelf.new }
 {
     let bytes = load_file(alloc, FileKind::Plan, name, shelf)?;
     match read_plan(alloc, bytes.as_slice()) {
-        Ok(plan) => checked(alloc, soc, limits, plan),
+        Ok(plan) => accepted_plan(alloc, both, plan),
         Err(fault) => Err(refused_plan(alloc, fault)),
+    }
+}
+
+/// A chip, its limits and a plan that is accepted for them.
+fn accepted_for(both: Both, plan: Plan) -> Accepted
+    requires { IsFaultless both.soc both.limits (plan_value plan) }
+    ensures chip { result.soc ≡ both.soc }
+    ensures limits { result.limits ≡ both.limits }
+    ensures plan { result.plan ≡ plan_value plan }
+{
+    Accepted {
+        soc: both.soc,
+        limits: both.limits,
+        resolved: both.resolved,
+        plan,
     }
 }
 
@@ -257,16 +332,16 @@ pub fn load_both<H: Shelf>(
 ) -> Result<Both, Verdict>
     ensures held_stays { H.held shelf.new ≡ H.held shelf.old }
     ensures faults_never_fall { H.faults shelf.old ≤ H.faults shelf.new }
-    ensures chip { IfOk result (λ both. IsSoundChip (soc_value both.soc)) }
-    ensures limits { IfOk result (λ both. IsSoundLimits (soc_value both.soc) (limits_value both.limits)) }
-    ensures live { IfOk result (λ both. IfSome both.live (λ tests. tests ≡ live_ids (soc_value both.soc))) }
     ensures loads { LoadsBoth soc.now limits.now (H.held shelf.old) (H.faults shelf.old) (H.faults shelf.new) result }
     ensures by_loads { LoadsTwo H.is_load soc.now limits.now shelf.old result shelf.new }
 {
     let soc = load_chip(alloc, soc, shelf)?;
-    let mut live = None;
-    let limits = load_limits(alloc, &soc, &mut live, limits, shelf)?;
-    Ok(Both { soc, limits, live })
+    let bounds = load_limits(alloc, &soc, limits, shelf)?;
+    Ok(Both {
+        soc,
+        limits: bounds.limits,
+        resolved: bounds.resolved,
+    })
 }
 
 /// Loads a chip, limits for it and a plan that is accepted, else how the command ends.
@@ -279,19 +354,10 @@ pub fn load_all<H: Shelf>(
 ) -> Result<Accepted, Verdict>
     ensures held_stays { H.held shelf.new ≡ H.held shelf.old }
     ensures faults_never_fall { H.faults shelf.old ≤ H.faults shelf.new }
-    ensures sound { IfOk result (λ all. IsSoundChip (soc_value all.soc)) }
-    ensures limits { IfOk result (λ all. IsSoundLimits (soc_value all.soc) (limits_value all.limits)) }
-    ensures live { IfOk result (λ all. IfSome all.live (λ tests. tests ≡ live_ids (soc_value all.soc))) }
-    ensures accepted { IfOk result (λ all. IsFaultless (soc_value all.soc) (limits_value all.limits) (plan_value all.plan)) }
     ensures loads { LoadsAll soc.now limits.now plan.now (H.held shelf.old) (H.faults shelf.old) (H.faults shelf.new) result }
     ensures by_loads { LoadsThree H.is_load soc.now limits.now plan.now shelf.old result shelf.new }
 {
     let both = load_both(alloc, soc, limits, shelf)?;
-    let plan = load_accepted_plan(alloc, &both.soc, &both.limits, plan, shelf)?;
-    Ok(Accepted {
-        soc: both.soc,
-        limits: both.limits,
-        plan,
-        live: both.live,
-    })
+    let plan = load_accepted_plan(alloc, &both, plan, shelf)?;
+    Ok(accepted_for(both, plan))
 }

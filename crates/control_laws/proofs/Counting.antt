@@ -1,6 +1,5 @@
 -- How many Captures come before a cycle of a test.
-use Rattle.std.proofs.Common.{◌≡◌, ℕ, zero, suc, ◌+◌, ◌-◌, ◌*◌, ◌≤◌, ◌<◌, ◌⊎◌, Bool, true, false, cond, max, Option, None, Some, refl, ap, sym, ◌∙◌, arith, inl, inr, add-zero}
-use Rattle.std.specs.Prelude.{slice_get}
+use Rattle.std.proofs.Common.{◌≡◌, ℕ, zero, suc, ◌+◌, ◌-◌, ◌*◌, ◌≤◌, ◌<◌, ◌⊎◌, Bool, true, false, cond, max, Option, None, Some, refl, ap, sym, ◌∙◌, arith, inl, inr, add-zero, slice_get}
 use Rattle.std.proofs.lemmas.Bool.{cases_lt, false_from_ne_true}
 use Rattle.plan_model.specs.Operations.{Operation, Setup, Shift, Capture, SelfTest, ops_of}
 use Rattle.plan_model.proofs.OperationBlocks.{IsCaptured, capture_at, capture_found}

@@ -1,6 +1,5 @@
 -- The bits that are driven and those that are compared, cut out of a line.
-use Rattle.std.proofs.Common.{◌≡◌, ℕ, ◌+◌, ◌-◌, List, ◌++◌, length, take, drop, ap, sym, ◌∙◌, arith, append_assoc}
-use Rattle.std.specs.Prelude.{codes, slice_range}
+use Rattle.std.proofs.Common.{◌≡◌, ℕ, ◌+◌, ◌-◌, List, ◌++◌, length, take, drop, ap, sym, ◌∙◌, arith, append_assoc, codes, slice_range}
 use Rattle.std.proofs.lemmas.List.{length-append, take_at, drop_at}
 
 -- a line, and whatever is behind it

@@ -1,6 +1,5 @@
 -- The test finds exactly the tests that exclude each other.
-use Rattle.std.proofs.Common.{◌≡◌, ◌↔◌, ℕ, ◌+◌, ◌<◌, Bool, true, false, Option, None, Some, length, refl, ap, ◌∙◌, sym, arith, inl, inr, eqb}
-use Rattle.std.specs.Prelude.{slice_get, nat_eq, not, ◌||◌, IsTrue}
+use Rattle.std.proofs.Common.{◌≡◌, ◌↔◌, ℕ, ◌+◌, ◌<◌, Bool, true, false, Option, None, Some, length, refl, ap, ◌∙◌, sym, arith, inl, inr, eqb, slice_get, nat_eq, not, ◌||◌, IsTrue}
 use Rattle.std.proofs.lemmas.Bool.{cases_Bool, and_parts, eqb-true, eq-eqb, ltb-true, lt-ltb, ne_eqb}
 use Rattle.std.proofs.lemmas.List.{length-map}
 use Rattle.soc_model.specs.Chips.{SocValue, LiveTest, live_tests, id_of, parent_place}

@@ -1,7 +1,5 @@
 -- In a good plan tests that exclude each other are never active at one cycle.
-use Rattle.std.proofs.Common.{◌≡◌, ◌≢◌, ℕ, zero, suc, ◌+◌, ◌-◌, ◌≤◌, ◌<◌, Bool, Some, List, [], ◌∷◌, length, map, refl, ap, ◌∙◌, sym, arith, inl, inr, leb}
-use Rattle.std.specs.Prelude.{slice_get, if◌then◌else◌}
-use Rattle.std.specs.List.{sum_by, Contains}
+use Rattle.std.proofs.Common.{◌≡◌, ◌≢◌, ℕ, zero, suc, ◌+◌, ◌-◌, ◌≤◌, ◌<◌, Bool, Some, List, [], ◌∷◌, length, map, refl, ap, ◌∙◌, sym, arith, inl, inr, leb, slice_get, if◌then◌else◌, sum_by, Contains}
 use Rattle.std.proofs.lemmas.Bool.{cases_Bool, cases_lt, le-leb, lt-ltb}
 use Rattle.std.proofs.lemmas.Option.{slice_get-map}
 use Rattle.soc_model.specs.declared.TestId.{TestId}

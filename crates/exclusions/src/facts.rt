@@ -1,18 +1,14 @@
 //! What exclusions ask of each live test: its module, that module's parent, and the least that it draws.
 ghost use Rattle.std.specs.Prelude.{◌≡◌, ◌++◌, ◌+◌, Some, map, IfOk, OnOk};
 ghost use Rattle.std.specs.List.{filter};
-ghost use Rattle.soc_model.specs.Chips.{is_live, soc_value};
-ghost use Rattle.plan_model.specs.Views.{limits_value};
-ghost use Rattle.live_tests.specs.Profiles.{AreProfilePlaces};
-ghost use Rattle.live_tests.specs.Resolved.{IsResolved};
+ghost use Rattle.soc_model.specs.Chips.{is_live};
 ghost use Rattle.exclusions.specs.Exclusions.{is_passed as the_passed, is_place as the_place};
 ghost use Rattle.exclusions.specs.Rows.{all_facts as the_facts, are_apart as the_apart, are_kin as the_kin, facts_at, mark_of as the_mark};
 
 use crate::powers::least_at;
-use live_tests::{Resolved, profile_place};
+use live_tests::{Problem, profile_place};
 use outside::{NoMemory, push};
-use plan_model::Limits;
-use soc_model::{Module, Soc, Test, TestId, live, module_at};
+use soc_model::{Module, Test, TestId, live, module_at};
 use std::alloc::Global;
 
 /// What exclusions ask of a live test.
@@ -81,22 +77,20 @@ pub(crate) fn mark_of(
 
 /// What exclusions ask of a test of a module, whose place, parent and number these are.
 fn test_facts(
-    limits: &Limits,
-    resolved: &Resolved,
+    problem: &Problem<'_>,
     place: usize,
     parent: Option<usize>,
     number: u64,
     test: &Test,
 ) -> TestFacts
-    requires profiles { AreProfilePlaces resolved.now.profiles limits.now.profiles.items }
-    ensures { result ≡ facts_at (limits_value limits.now) place parent number test.now }
+    ensures { result ≡ facts_at problem.now.limits place parent number test.now }
 {
     let id = TestId {
         module: number,
         test: test.number,
     };
-    let found = profile_place(&limits.profiles, &resolved.profiles, id);
-    let least = least_at(limits, found, test.power);
+    let found = profile_place(&problem.limits.profiles, &problem.resolved.profiles, id);
+    let least = least_at(problem.limits, found, test.power);
     TestFacts {
         place,
         parent,
@@ -107,48 +101,36 @@ fn test_facts(
 /// Adds what exclusions ask of the live tests of a module, whose place and parent these are.
 fn push_facts(
     facts: &mut Vec<TestFacts>,
-    limits: &Limits,
-    resolved: &Resolved,
+    problem: &Problem<'_>,
     place: usize,
     parent: Option<usize>,
     module: &Module,
 ) -> Result<(), NoMemory>
-    requires profiles { AreProfilePlaces resolved.now.profiles limits.now.profiles.items }
     ensures { OnOk result (facts.new.items ≡ facts.old.items
-        ++ map (facts_at (limits_value limits.now) place parent «module».now.number) (filter is_live «module».now.tests.items)) }
+        ++ map (facts_at problem.now.limits place parent «module».now.number) (filter is_live «module».now.tests.items)) }
 {
     for test in &module.tests {
         if live(test) {
             let number = module.number;
-            push(
-                facts,
-                test_facts(limits, resolved, place, parent, number, test),
-            )?;
+            push(facts, test_facts(problem, place, parent, number, test))?;
         }
     }
     Ok(())
 }
 
 /// What exclusions ask of each live test, in the order of the chip.
-pub(crate) fn all_facts(
-    alloc: Global,
-    soc: &Soc,
-    limits: &Limits,
-    resolved: &Resolved,
-) -> Result<Vec<TestFacts>, NoMemory>
-    requires { IsResolved (soc_value soc.now) limits.now resolved.now }
-    ensures { IfOk result (λ facts. facts.items ≡ the_facts (soc_value soc.now) (limits_value limits.now)) }
+pub(crate) fn all_facts(alloc: Global, problem: &Problem<'_>) -> Result<Vec<TestFacts>, NoMemory>
+    ensures { IfOk result (λ facts. facts.items ≡ the_facts problem.now.soc problem.now.limits) }
 {
     let mut facts = Vec::new(alloc);
-    for place in 0..resolved.parents.len() {
-        let parent = resolved.parents[place];
+    for place in 0..problem.resolved.parents.len() {
+        let parent = problem.resolved.parents[place];
         push_facts(
             &mut facts,
-            limits,
-            resolved,
+            problem,
             place,
             parent,
-            module_at(soc, place),
+            module_at(problem.soc, place),
         )?;
     }
     Ok(facts)

@@ -1,9 +1,7 @@
 //! Which live tests a live test excludes, as a row of marks.
 ghost use Rattle.std.specs.Prelude.{◌≡◌, ℕ, ◌<◌, Some, length, slice_get, IfOk};
-ghost use Rattle.soc_model.specs.Chips.{LiveTest, SocValue, live_tests, soc_value};
+ghost use Rattle.soc_model.specs.Chips.{LiveTest, SocValue, live_tests};
 ghost use Rattle.plan_model.specs.Plans.{LimitsValue};
-ghost use Rattle.plan_model.specs.Views.{limits_value};
-ghost use Rattle.live_tests.specs.Resolved.{IsResolved};
 ghost use Rattle.exclusions.specs.declared.facts.TestFacts.{TestFacts};
 ghost use Rattle.exclusions.specs.Exclusions.{excludes, least_power};
 ghost use Rattle.exclusions.specs.Marks.{is_marked};
@@ -11,10 +9,8 @@ ghost use Rattle.exclusions.specs.Rows.{AreRowsOf, HasRow, mark_of as the_mark};
 
 use crate::facts::{TestFacts, all_facts, mark_of};
 use crate::floods::{tests_after, tests_before};
-use live_tests::{Neighbours, Resolved, all_after, all_before};
+use live_tests::{Neighbours, Problem, all_after, all_before};
 use outside::NoMemory;
-use plan_model::Limits;
-use soc_model::Soc;
 use std::alloc::Global;
 
 /// What a chip and limits say of exclusions, from which the row of each live test is made. It holds a few numbers for each
@@ -28,24 +24,18 @@ pub struct ExclusionRows {
 }
 
 impl ExclusionRows {
-    /// Those of a chip and limits, which are resolved. `NoMemory` where there is none.
-    pub fn new(
-        alloc: Global,
-        soc: &Soc,
-        limits: &Limits,
-        resolved: &Resolved,
-    ) -> Result<ExclusionRows, NoMemory>
-        requires { IsResolved (soc_value soc.now) limits.now resolved.now }
-        ensures { IfOk result (λ rows. AreRowsOf (soc_value soc.now) (limits_value limits.now) rows) }
+    /// Those of a chip and its limits. `NoMemory` where there is none.
+    pub fn new(alloc: Global, problem: &Problem<'_>) -> Result<ExclusionRows, NoMemory>
+        ensures { IfOk result (λ rows. AreRowsOf problem.now.soc problem.now.limits rows) }
     {
-        let facts = all_facts(alloc, soc, limits, resolved)?;
-        let after = all_after(alloc, facts.len(), &resolved.precedences)?;
-        let before = all_before(alloc, facts.len(), &resolved.precedences)?;
+        let facts = all_facts(alloc, problem)?;
+        let after = all_after(alloc, facts.len(), &problem.resolved.precedences)?;
+        let before = all_before(alloc, facts.len(), &problem.resolved.precedences)?;
         Ok(ExclusionRows {
             facts,
             after,
             before,
-            power: limits.power,
+            power: problem.limits.power,
         })
     }
 

@@ -1,7 +1,5 @@
 -- What is found at a cycle on a wire is what is read there, and where nothing is found nothing is read.
-use Rattle.std.proofs.Common.{◌≡◌, ℕ, zero, suc, ◌+◌, ◌-◌, ◌*◌, ◌≤◌, ◌<◌, ◌⊎◌, inl, inr, max, min, true, false, Option, Some, None, List, [], length, get_or, map, take, option_map, refl, ap, sym, subst, ◌∙◌, arith}
-use Rattle.std.specs.Prelude.{slice_get, slice_index}
-use Rattle.std.specs.List.{sum}
+use Rattle.std.proofs.Common.{◌≡◌, ℕ, zero, suc, ◌+◌, ◌-◌, ◌*◌, ◌≤◌, ◌<◌, ◌⊎◌, inl, inr, max, min, true, false, Option, Some, None, List, [], length, get_or, map, take, option_map, refl, ap, sym, subst, ◌∙◌, arith, slice_get, slice_index, sum}
 use Rattle.std.specs.List.Sorted.{IsNonDecreasing}
 use Rattle.std.proofs.lemmas.Bool.{cases_lt}
 use Rattle.std.proofs.lemmas.List.{get_or_past, take-take}
@@ -12,7 +10,6 @@ use Rattle.soc_model.specs.declared.TestId.{TestId}
 use Rattle.soc_model.specs.Chips.{ModuleValue, SocValue}
 use Rattle.plan_model.specs.declared.moments.Phases.{Phases}
 use Rattle.plan_model.specs.declared.moments.Turn.{Turn}
-use Rattle.plan_model.specs.Cells as cells
 use Rattle.plan_model.specs.Cells.{chain_cells, out_length}
 use Rattle.plan_model.specs.declared.moments.Moment.{Moment}
 use Rattle.plan_model.specs.declared.Wrapper.{Wrapper}
@@ -39,6 +36,7 @@ use Rattle.fail_locate.specs.Locating.{IsBehind, IsLast, IsLocator, IsOnWire, Is
 use Rattle.fail_locate.specs.Spots.{IsNoSpot, IsSpot, cell_value}
 use Rattle.fail_locate.specs.Wired.{IsKept, IsPlanned, IsWired}
 use Rattle.common_lemmas.proofs.Lists.{from_map}
+use Rattle.plan_model.specs.Cells as cells
 
 -- ---- first wires
 

@@ -1,6 +1,5 @@
 -- A test over the wires in its wrapper.
-use Rattle.std.proofs.Common.{◌≡◌, ℕ, zero, suc, ◌+◌, ◌*◌, ◌^◌, ◌≤◌, Bool, true, max, min, Some, List, [], get_or, refl, ap, sym, subst, ◌∙◌, arith}
-use Rattle.std.specs.Prelude.{slice_get}
+use Rattle.std.proofs.Common.{◌≡◌, ℕ, zero, suc, ◌+◌, ◌*◌, ◌^◌, ◌≤◌, Bool, true, max, min, Some, List, [], get_or, refl, ap, sym, subst, ◌∙◌, arith, slice_get}
 use Rattle.soc_model.specs.declared.Test.{Test}
 use Rattle.soc_model.specs.Chips.{ModuleValue, SocValue}
 use Rattle.plan_model.specs.Cells.{Cell, IsProper, chain_cells, out_length}

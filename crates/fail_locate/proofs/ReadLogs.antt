@@ -1,7 +1,5 @@
 -- What reads logs reads their grammar.
-use Rattle.std.proofs.Common.{◌≡◌, ◌⊎◌, inl, inr, ℕ, true, false, List, [], ◌∷◌, ◌++◌, Some, refl, sym, ◌∙◌, ap, arith, append_assoc, append-nil}
-use Rattle.std.specs.Prelude.{nat_eq, codes}
-use Rattle.std.specs.List.{flat_map}
+use Rattle.std.proofs.Common.{◌≡◌, ◌⊎◌, inl, inr, ℕ, true, false, List, [], ◌∷◌, ◌++◌, Some, refl, sym, ◌∙◌, ap, arith, append_assoc, append-nil, nat_eq, codes, flat_map}
 use Rattle.std.proofs.lemmas.Bool.{cases_Bool, eqb-true}
 use Rattle.std.proofs.lemmas.List.Concat.{flat_map-append}
 use Rattle.outside.specs.Runs.{run_by}
@@ -12,9 +10,9 @@ use Rattle.keyword_text.specs.Texts.{AllSmall}
 use Rattle.keyword_text.specs.Machines.{IsRun, MayEnd, IsSaid, IsSpelled, ReadsGrammar}
 use Rattle.keyword_text.proofs.Kept.{IsKept, kept_holds}
 use Rattle.fail_locate.specs.declared.tokens.Keyword.{Keyword}
-use Rattle.fail_locate.specs.declared.tokens.Keyword.TheVariants as key
 use Rattle.fail_locate.specs.LogWords.{log_lexicon, fail_tokens, log_tokens, log_grammar}
 use Rattle.fail_locate.specs.LogReads.{State, empty, titled, between, begun, timed, after, ended, log_machine}
+use Rattle.fail_locate.specs.declared.tokens.Keyword.TheVariants as key
 
 -- ---- what was read is the words of the state
 

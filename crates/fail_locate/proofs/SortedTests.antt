@@ -1,6 +1,5 @@
 -- Tests in the order of their buses and starts, and where one stands among them.
-use Rattle.std.proofs.Common.{◌≡◌, ℕ, ◌≤◌, ◌<◌, ◌⊎◌, inl, inr, true, false, Some, List, get_or, refl, sym, subst, ◌∙◌, arith, ltb, leb, ltb-true, leb-true}
-use Rattle.std.specs.Prelude.{slice_get, nat_eq, ◌&&◌}
+use Rattle.std.proofs.Common.{◌≡◌, ℕ, ◌≤◌, ◌<◌, ◌⊎◌, inl, inr, true, false, Some, List, get_or, refl, sym, subst, ◌∙◌, arith, ltb, leb, ltb-true, leb-true, slice_get, nat_eq, ◌&&◌}
 use Rattle.std.specs.Cmp.{IsTotalOrder, nat_cmp_is}
 use Rattle.std.specs.List.Sorted.{IsPartitionedBy, IsSortedByKey}
 use Rattle.std.specs.Ordering.{nat_cmp, ordering_then, is_lt}

@@ -1,38 +1,67 @@
--- What remains once no more tests can be taken away, and the loop that is found there.
-use Rattle.std.proofs.Common.{◌≡◌, ◌⊎◌, inl, inr, ℕ, zero, suc, ◌+◌, ◌-◌, ◌<◌, ◌≤◌, List, [], ◌∷◌, length, get_or, Bool, true, false, cond, ◌&&◌, not, nat_eq, Some, None, slice_get, position, refl, sym, ◌∙◌, ap, subst, arith, add-one}
-use Rattle.std.specs.Prelude.{min}
-use Rattle.std.specs.List.{All, Contains}
-use Rattle.std.proofs.lemmas.Bool.{cases_lt, eqb-true, eq-eqb}
-use Rattle.std.proofs.lemmas.List.Elements.{All-contains}
-use Rattle.std.proofs.lemmas.Option.{slice_get-get_or, slice_get_within, same_Some}
+-- What remains once no more tests can be taken away, the loop that is found there, and its tests.
+use Rattle.std.proofs.Common.{◌≡◌, ℕ, ◌<◌, List, length, get_or, Bool, true, false, cond, nat_lt, Some, None, slice_get, position, sym, ◌∙◌, ap, arith, ◌⊎◌, inl, inr, zero, suc, ◌+◌, ◌-◌, ◌≤◌, [], ◌∷◌, ◌&&◌, not, nat_eq, refl, subst, add-one, ◌++◌, take, map, Option, All, Contains, min}
+use Rattle.std.specs.List.{position_or_len}
+use Rattle.std.proofs.lemmas.List.Sums.{fails_before_first}
+use Rattle.std.proofs.lemmas.List.Quantifiers.{position-Some}
+use Rattle.std.proofs.lemmas.Option.{get_or_from_slice_get, slice_get-get_or, slice_get_within, same_Some}
+use Rattle.std.proofs.lemmas.Bool.{cases_lt, eqb-true, eq-eqb, cases_Bool}
+use Rattle.std.proofs.lemmas.List.Elements.{All-contains, All-get_or, All-from_get_or}
 use Rattle.plan_model.proofs.Finding.{none_passes}
-use Rattle.limits_text.specs.Loops.{IsTaken, take_away, Remains, IsFirstRemaining, IsForerunner, IsWalk, IsFirstLoop, HasRank}
+use Rattle.limits_text.specs.Loops.{IsTaken, take_away, Remains, IsFirstRemaining, IsForerunner, IsWalk, IsFirstLoop, HasRank, AreAt}
 use Rattle.limits_text.specs.Orders.{is_in, least_before, Counts, IsTaking, AreMarked, ComesAgain, IsBack}
-use Rattle.limits_text.proofs.Positions.{fails_before, passes_at}
 use Rattle.limits_text.proofs.Taking.{in_at, in_take_at}
 use Rattle.common_lemmas.proofs.Tests.{not_true, not_false}
 use Rattle.common_lemmas.proofs.Lists.{contains_at, contains_from}
+use Rattle.std.proofs.lemmas.List.{take_more, map-append}
+use Rattle.soc_model.specs.declared.TestId.{TestId}
+use Rattle.soc_model.specs.Chips.{SocValue}
+use Rattle.plan_model.specs.Plans.{LimitsValue}
+use Rattle.plan_model.specs.Rules.{live_ids}
+use Rattle.plan_model.specs.SoundLimits.{IsAcyclic}
+use Rattle.plan_model.proofs.Lists.{at_contains}
+use Rattle.live_tests.proofs.Precedences.{place_among, place_there, pair_there, StandsFor, stands_for}
+use Rattle.live_tests.specs.Names.{precedences}
+
+-- ---- the first place at which an element passes a test
+
+cond_some : {X : Type 0} (b : Bool) (x y : X) → cond b (Some x) None ≡ Some y → x ≡ y
+cond_some true x y e = cc
+cond_some false x y e = cc
+
+module _ {X : Type 0} (p : X → Bool) (xs : List X) (k : ℕ) where
+  -- before the first that passes
+  pub fails_before : (i : ℕ) (x : X) → position p xs ≡ Some k → i < k → slice_get xs i ≡ Some x → p x ≡ false
+  fails_before i x found less at =
+      let same = cond_some (nat_lt (position_or_len p xs) (length xs)) (position_or_len p xs) k found in
+      ap p (sym (get_or_from_slice_get xs i x x at)) ∙ fails_before_first p xs i x (omega (arith, less, same))
+
+  -- the first that passes
+  pub passes_at : (d : X) → position p xs ≡ Some k → (k < length xs) × (p (get_or xs k d) ≡ true)
+  passes_at d found = let e = position-Some p xs k d found in (e.0, e.1)
+
+-- ---- what remains once no more tests can be taken away, and the loop that is found there
 
 abbrev pub AreWithin : List (ℕ × ℕ) → ℕ → Type 0
 AreWithin pairs count = All (λ (e : ℕ × ℕ). (e.0 < count) × (e.1 < count)) pairs
 
--- what is in the order can be taken away
-taken_below : (pairs : List (ℕ × ℕ)) (count : ℕ) (order : List ℕ) → IsTaking pairs count order → (n p j : ℕ) → p < n → slice_get order p ≡ Some j → IsTaken pairs j
-taken_below pairs count order t zero p j less at = absurd (omega (arith, less))
-taken_below pairs count order t (suc n) p j less at =
-    take_away j (λ i c. (let a = in_take_at order p i (t.ordered p i j at c) in taken_below pairs count order t n a.0 i (omega (arith, a.1, less)) a.2))
+module _ {pairs : List (ℕ × ℕ)} {count : ℕ} {order : List ℕ} (t : IsTaking pairs count order) where
+  -- what is in the order can be taken away
+  taken_below : (n p j : ℕ) → p < n → slice_get order p ≡ Some j → IsTaken pairs j
+  taken_below zero p j less at = absurd (omega (arith, less))
+  taken_below (suc n) p j less at =
+      take_away j (λ i c. (let a = in_take_at order p i (t.ordered p i j at c) in taken_below n a.0 i (omega (arith, a.1, less)) a.2))
 
-pub taken : (pairs : List (ℕ × ℕ)) (count : ℕ) (order : List ℕ) → IsTaking pairs count order → (j : ℕ) → is_in order j ≡ true → IsTaken pairs j
-taken pairs count order t j e = let a = in_at order j e in taken_below pairs count order t (suc a.0) a.0 j (omega arith) a.1
+  pub taken : (j : ℕ) → is_in order j ≡ true → IsTaken pairs j
+  taken j e = let a = in_at order j e in taken_below (suc a.0) a.0 j (omega arith) a.1
 
--- what is not in the order is never taken away
-never : (pairs : List (ℕ × ℕ)) (count : ℕ) (order : List ℕ) → AreWithin pairs count → IsTaking pairs count order → (j : ℕ) → IsTaken pairs j → j < count → is_in order j ≡ false → ⊥
-never pairs count order all t _ (take_away i f) small fresh =
-    let k = t.stuck i small fresh in
-    never pairs count order all t k.0 (f k.0 k.1) (All-contains (λ (e : ℕ × ℕ). (e.0 < count) × (e.1 < count)) pairs (k.0, i) all k.1).0 k.2
+  -- what is not in the order is never taken away
+  never : AreWithin pairs count → (j : ℕ) → IsTaken pairs j → j < count → is_in order j ≡ false → ⊥
+  never all _ (take_away i f) small fresh =
+      let k = t.stuck i small fresh in
+      never all k.0 (f k.0 k.1) (All-contains (λ (e : ℕ × ℕ). (e.0 < count) × (e.1 < count)) pairs (k.0, i) all k.1).0 k.2
 
-pub remains : (pairs : List (ℕ × ℕ)) (count : ℕ) (order : List ℕ) → AreWithin pairs count → IsTaking pairs count order → (j : ℕ) → j < count → is_in order j ≡ false → Remains pairs j
-remains pairs count order all t j small fresh is = never pairs count order all t j is small fresh
+  pub remains : AreWithin pairs count → (j : ℕ) → j < count → is_in order j ≡ false → Remains pairs j
+  remains all j small fresh is = never all j is small fresh
 
 -- ---- without a loop
 
@@ -58,41 +87,40 @@ rank-upto (y ∷ xs) (suc q) x at = next (nat_eq x y) (rank-upto xs q x at)
 at_rank : (xs : List ℕ) (x : ℕ) → is_in xs x ≡ true → slice_get xs (rank_in xs x) ≡ Some x
 unfolding rank_in
 at_rank [] x e = cc
-at_rank (y ∷ xs) x e = by (nat_eq x y) refl (at_rank xs x)
-  where
-    by : (b : Bool) → nat_eq x y ≡ b → (is_in xs x ≡ true → slice_get xs (rank_in xs x) ≡ Some x) → slice_get (y ∷ xs) (cond b 0 (suc (rank_in xs x))) ≡ Some x
-    by true is again = ap Some (sym (eqb-true x y is))
-    by false is again = again (rw is at e)
+at_rank (y ∷ xs) x e = elim (cases_Bool (nat_eq x y)) [
+  | inl is ↦ rw is (ap Some (sym (eqb-true x y is)))
+  | inr is ↦ rw is (at_rank xs x (rw is at e))
+]
 
 -- the marks say what is in the order
 pub record Marked (count : ℕ) (order : List ℕ) (gone : List Bool) : Type 0 where
   pub long : length gone ≡ count
   pub marks : AreMarked gone order
 
-marked_in : (count : ℕ) (order : List ℕ) (gone : List Bool) (j : ℕ) (b : Bool) → Marked count order gone → j < count → get_or gone j false ≡ b → is_in order j ≡ b
-marked_in count order gone j b m small e = sym (m.marks j (omega (arith, small, m.long))) ∙ e
-
-pub all_ranked : (pairs : List (ℕ × ℕ)) (count : ℕ) (order : List ℕ) (gone : List Bool) → AreWithin pairs count → IsTaking pairs count order → Marked count order gone → position not gone ≡ None → HasRank pairs
-all_ranked pairs count order gone all t m none = (λ j. rank_in order j, λ i j c. grows i j c)
-  where
-    every : (j : ℕ) → j < count → is_in order j ≡ true
-    every j small = marked_in count order gone j true m small (not_false (get_or gone j false) (none_passes not gone none j (get_or gone j false) (slice_get-get_or gone j false (omega (arith, small, m.long)))))
-
-    grows : (i j : ℕ) → Contains pairs (i, j) → rank_in order i < rank_in order j
-    grows i j c =
-        let small = (All-contains (λ (e : ℕ × ℕ). (e.0 < count) × (e.1 < count)) pairs (i, j) all c).1 in
-        let a = in_take_at order (rank_in order j) i (t.ordered (rank_in order j) i j (at_rank order j (every j small)) c) in
-        omega (arith, a.1, rank-upto order a.0 i a.2)
-
--- ---- with a loop
+module _ {count : ℕ} {order : List ℕ} {gone : List Bool} (m : Marked count order gone) where
+  marked_in : (j : ℕ) (b : Bool) → j < count → get_or gone j false ≡ b → is_in order j ≡ b
+  marked_in j b small e = sym (m.marks j (omega (arith, small, m.long))) ∙ e
 
 -- a test that is not gone, and so remains
 abbrev IsLeft : ℕ → List Bool → ℕ → Type 0
 IsLeft count gone j = (j < count) × (get_or gone j false ≡ false)
 
-module _ (pairs : List (ℕ × ℕ)) (count : ℕ) (order : List ℕ) (gone : List Bool) (all : AreWithin pairs count) (t : IsTaking pairs count order) (m : Marked count order gone) where
+module _ {pairs : List (ℕ × ℕ)} {count : ℕ} {order : List ℕ} {gone : List Bool} (t : IsTaking pairs count order) (m : Marked count order gone) (all : AreWithin pairs count) where
+  -- where all tests are gone they have ranks
+  pub all_ranked : position not gone ≡ None → HasRank pairs
+  all_ranked none = (λ j. rank_in order j, λ i j c. grows i j c)
+    where
+      every : (j : ℕ) → j < count → is_in order j ≡ true
+      every j small = marked_in m j true small (not_false (get_or gone j false) (none_passes not gone none j (get_or gone j false) (slice_get-get_or gone j false (omega (arith, small, m.long)))))
+
+      grows : (i j : ℕ) → Contains pairs (i, j) → rank_in order i < rank_in order j
+      grows i j c =
+          let small = (All-contains (λ (e : ℕ × ℕ). (e.0 < count) × (e.1 < count)) pairs (i, j) all c).1 in
+          let a = in_take_at order (rank_in order j) i (t.ordered (rank_in order j) i j (at_rank order j (every j small)) c) in
+          omega (arith, a.1, rank-upto order a.0 i a.2)
+
   left_remains : (j : ℕ) → IsLeft count gone j → Remains pairs j
-  left_remains j l = remains pairs count order all t j l.0 (marked_in count order gone j false m l.0 l.1)
+  left_remains j l = remains t all j l.0 (marked_in m j false l.0 l.1)
 
   pub first_left : (start : ℕ) → position not gone ≡ Some start → IsFirstRemaining pairs count start × IsLeft count gone start
   first_left start found =
@@ -101,7 +129,7 @@ module _ (pairs : List (ℕ × ℕ)) (count : ℕ) (order : List ℕ) (gone : Li
         record {
           within = left.0;
           remains = left_remains start left;
-          earlier = λ k less. taken pairs count order t k (marked_in count order gone k true m (omega (arith, less, left.0)) (not_false (get_or gone k false) (fails_before not gone start k (get_or gone k false) found less (slice_get-get_or gone k false (omega (arith, less, at.0))))));
+          earlier = λ k less. taken t k (marked_in m k true (omega (arith, less, left.0)) (not_false (get_or gone k false) (fails_before not gone start k (get_or gone k false) found less (slice_get-get_or gone k false (omega (arith, less, at.0))))));
         },
         left,
       )
@@ -157,7 +185,7 @@ module _ (pairs : List (ℕ × ℕ)) (count : ℕ) (order : List ℕ) (gone : Li
   -- the forerunner of a test that is left
   forerunner : (j : ℕ) → IsLeft count gone j → IsForerunner pairs j (least_before gone (length gone - 1) pairs j) × IsLeft count gone (least_before gone (length gone - 1) pairs j)
   forerunner j left =
-      let k = t.stuck j left.0 (marked_in count order gone j false m left.0 left.1) in
+      let k = t.stuck j left.0 (marked_in m j false left.0 left.1) in
       let small = (All-contains (λ (e : ℕ × ℕ). (e.0 < count) × (e.1 < count)) pairs (k.0, j) all k.1).0 in
       let open_k : get_or gone k.0 false ≡ false = m.marks k.0 (omega (arith, small, m.long)) ∙ k.2 in
       let c = contains_at pairs (k.0, j) k.1 in
@@ -170,7 +198,7 @@ module _ (pairs : List (ℕ × ℕ)) (count : ℕ) (order : List ℕ) (gone : Li
       earlier : (k : ℕ) → k < least → Contains pairs (k, j) → IsTaken pairs k
       earlier k less c =
           let small = (All-contains (λ (e : ℕ × ℕ). (e.0 < count) × (e.1 < count)) pairs (k, j) all c).0 in
-          taken pairs count order t k (marked_in count order gone k true m small (gone_k (get_or gone k false) refl (contains_at pairs (k, j) c)))
+          taken t k (marked_in m k true small (gone_k (get_or gone k false) refl (contains_at pairs (k, j) c)))
         where
           gone_k : (b : Bool) → get_or gone k false ≡ b → (p : ℕ) × (slice_get pairs p ≡ Some (k, j)) → get_or gone k false ≡ true
           gone_k true e c = e
@@ -223,3 +251,65 @@ module _ (pairs : List (ℕ × ℕ)) (count : ℕ) (order : List ℕ) (gone : Li
     where
       last_is : (a b : ℕ) → a ≡ b + 1 → a - 1 ≡ b
       last_is a b e = omega arith
+
+-- ---- ranks of live tests and of their places, and the tests of a loop
+
+-- ---- ranks
+
+-- ranks of places are ranks of tests
+rank_of : (ℕ → ℕ) → Option ℕ → ℕ
+rank_of rank None = 0
+rank_of rank (Some i) = rank i
+
+pub acyclic : (soc : SocValue) (limits : LimitsValue) → HasRank (precedences soc limits) → IsAcyclic soc limits
+unfolding rank_of
+acyclic soc limits r = (λ id. rank_of r.0 (place_among (live_ids soc) id), λ a b c live_a live_b. grows a b c live_a live_b)
+  where
+    grows : (a b : TestId) → Contains limits.before (a, b) → Contains (live_ids soc) a → Contains (live_ids soc) b → rank_of r.0 (place_among (live_ids soc) a) < rank_of r.0 (place_among (live_ids soc) b)
+    grows a b c live_a live_b =
+        let k = contains_at limits.before (a, b) c in
+        let at_a = contains_at (live_ids soc) a live_a in
+        let at_b = contains_at (live_ids soc) b live_b in
+        let i = place_there at_a.0 (live_ids soc) a at_a.1 in
+        let j = place_there at_b.0 (live_ids soc) b at_b.1 in
+        let less : r.0 i.0 < r.0 j.0 = r.1 i.0 j.0 (pair_there (live_ids soc) limits.before k.0 i.0 j.0 a b k.1 i.1 j.1) in
+        let left : rank_of r.0 (place_among (live_ids soc) a) ≡ r.0 i.0 = ap (rank_of r.0) i.1 in
+        let right : rank_of r.0 (place_among (live_ids soc) b) ≡ r.0 j.0 = ap (rank_of r.0) j.1 in
+        omega (arith, less, left, right)
+
+-- ranks of tests are ranks of their places
+rank_at : (TestId → ℕ) → Option TestId → ℕ
+rank_at rank None = 0
+rank_at rank (Some id) = rank id
+
+pub ranked : (soc : SocValue) (limits : LimitsValue) → IsAcyclic soc limits → HasRank (precedences soc limits)
+unfolding rank_at
+ranked soc limits r = (λ i. rank_at r.0 (slice_get (live_ids soc) i), λ i j c. grows i j (stands_for (live_ids soc) limits.before i j c))
+  where
+    grows : (i j : ℕ) → StandsFor (live_ids soc) limits.before i j → rank_at r.0 (slice_get (live_ids soc) i) < rank_at r.0 (slice_get (live_ids soc) j)
+    grows i j s =
+        let less : r.0 s.first < r.0 s.second = r.1 s.first s.second s.precedes (at_contains (live_ids soc) i s.first s.first_at) (at_contains (live_ids soc) j s.second s.second_at) in
+        let left : rank_at r.0 (slice_get (live_ids soc) i) ≡ r.0 s.first = ap (rank_at r.0) s.first_at in
+        let right : rank_at r.0 (slice_get (live_ids soc) j) ≡ r.0 s.second = ap (rank_at r.0) s.second_at in
+        omega (arith, less, left, right)
+
+-- ---- the tests of a loop
+
+module _ (pairs : List (ℕ × ℕ)) (count : ℕ) where
+  walk_within : (walk : List ℕ) → AreWithin pairs count → IsWalk pairs count walk → (k x : ℕ) → slice_get walk k ≡ Some x → x < count
+  walk_within walk all w zero x at = (w.begins x at).within
+  walk_within walk all w (suc k) x at =
+      let within = slice_get_within walk (suc k) x at in
+      let before : slice_get walk k ≡ Some (get_or walk k 0) = slice_get-get_or walk k 0 (omega (arith, within)) in
+      let f = w.goes k (get_or walk k 0) x before (ap (slice_get walk) (add-one k) ∙ at) in
+      (All-contains (λ (e : ℕ × ℕ). (e.0 < count) × (e.1 < count)) pairs (x, get_or walk k 0) all f.precedes).0
+
+  pub loop_within : (circle : List ℕ) → AreWithin pairs count → IsFirstLoop pairs count circle → All (λ p. p < count) circle
+  loop_within circle all c =
+      All-from_get_or (λ p. p < count) circle 0 (λ k less. walk_within c.walk all c.is_walk (c.last - k) (get_or circle k 0) (sym (c.loop_is k less) ∙ slice_get-get_or circle k 0 less))
+
+pub tests_more : (ids : List TestId) (places : List ℕ) (tests : List TestId) (k : ℕ) (test d : TestId) → AreAt ids (take k places) tests → k < length places → All (λ p. p < length ids) places → test ≡ get_or ids (get_or places k 0) d → AreAt ids (take (k + 1) places) (tests ++ test ∷ [])
+tests_more ids places tests k test d are less all is =
+    let small = All-get_or (λ p. p < length ids) places k 0 less all in
+    ap (map (slice_get ids)) (take_more places k 0 less) ∙ map-append (slice_get ids) (take k places) (get_or places k 0 ∷ [])
+    ∙ ap (λ l. l ++ slice_get ids (get_or places k 0) ∷ []) are ∙ ap (λ o. map Some tests ++ o ∷ []) (slice_get-get_or ids (get_or places k 0) d small ∙ ap Some (sym is)) ∙ sym (map-append Some tests (test ∷ []))

@@ -1,12 +1,9 @@
--- The text of sound limits says them.
-use Rattle.std.proofs.Common.{◌≡◌, ℕ, ◌+◌, ◌<◌, ◌≤◌, List, [], ◌∷◌, ◌++◌, get_or, codes, decimal, position, option_map, Bool, true, false, nat_eq, Option, None, Some, slice_get, refl, sym, ◌∙◌, ap, subst, arith, append_assoc, append-nil}
-use Rattle.std.specs.Prelude.{nat_le, is_some, IfSome}
-use Rattle.std.specs.List.{All, flat_map}
+-- The printed text of sound limits is read as these limits.
+use Rattle.std.proofs.Common.{◌≡◌, ℕ, ◌+◌, ◌<◌, ◌≤◌, List, [], ◌∷◌, ◌++◌, get_or, codes, decimal, position, option_map, Bool, true, false, nat_eq, Option, None, Some, slice_get, refl, sym, ◌∙◌, ap, subst, arith, append_assoc, append-nil, is_some, IfSome, All, flat_map}
 use Rattle.std.proofs.lemmas.Bool.{eqb-true}
-use Rattle.std.proofs.lemmas.Bool.Decides.{nat_tests}
-use Rattle.std.proofs.lemmas.List.Elements.{All-head, All-tail, All-get_or}
+use Rattle.std.proofs.lemmas.List.Elements.{All-head, All-tail, All-nil, All-cons, All-weaker}
 use Rattle.std.proofs.lemmas.List.Quantifiers.{position-Some}
-use Rattle.std.proofs.lemmas.Option.{slice_get-get_or, slice_get_within, get_or_from_slice_get}
+use Rattle.std.proofs.lemmas.Option.{slice_get-get_or}
 use Rattle.outside.specs.Words.{words_left, words_of, AllInWord, Word}
 use Rattle.soc_model.specs.declared.Test.{Test}
 use Rattle.soc_model.specs.declared.TestId.{TestId}
@@ -21,16 +18,20 @@ use Rattle.plan_model.specs.Plans.{ProfileValue, LimitsValue}
 use Rattle.plan_model.specs.SoundLimits.{HasTest, IsSoundProfile, IsSoundLimits}
 use Rattle.plan_model.proofs.Lists.{in_append_right, in_flat_map}
 use Rattle.limits_text.specs.declared.items.Amount.TheVariants.{Wires, Power, Budget}
-use Rattle.limits_text.specs.Items.{is_in_range, Item, amount_item, has_amount}
+use Rattle.limits_text.specs.Items.{is_in_range, Item, amount_item, has_amount, before_item, profile_item}
 use Rattle.limits_text.specs.Grammar.{AreItems, form_number}
-use Rattle.limits_text.specs.Meaning.{limits_of}
-use Rattle.limits_text.specs.Answers.{SaysLimits}
+use Rattle.limits_text.specs.Meaning.{limits_of, is_known, unknown_line, or_first, first_unknown}
+use Rattle.limits_text.specs.Answers.{SaysLimits, read_as}
 use Rattle.limits_text.specs.Texts.{number_line, power_lines, before_line, profile_line, limits_text}
 use Rattle.limits_text.proofs.WordFacts.{title_is, wires_is, number-decimal}
-use Rattle.limits_text.proofs.PrintedWords.{IsSmall, IsSmallTest, number_line_words}
-use Rattle.limits_text.proofs.Printing.{Printed, amount_goes, power_is, budget_is, AreSmallTests, befores_go, OneEach, AreSmallProfiles, profiles_go}
+use Rattle.limits_text.proofs.Printing.{IsSmall, IsSmallTest, number_line_words, Printed, amount_goes, power_is, budget_is, AreSmallTests, befores_go, OneEach, AreSmallProfiles, profiles_go}
 use Rattle.common_lemmas.proofs.Tests.{le_true}
 use Rattle.common_lemmas.proofs.Lists.{all_at}
+use Rattle.limits_text.specs.Laws.{PrintedLimitsAreRead, PrintedLimitsAreAnswered}
+use Rattle.limits_text.proofs.SoundText.{unknown_more}
+use Rattle.limits_text.proofs.OneAnswer.{answered}
+
+-- ---- the text of sound limits says them
 
 -- ---- the tests of a sound chip have small numbers
 
@@ -70,16 +71,17 @@ small_test soc id sound has = by (module_place soc id.«module») refl
           test_small = subst IsSmall (sym (eqb-true id.test t.number at.1)) (test_small m.0 k.0 t small (slice_get-get_or m.0.tests k.0 d at.0));
         }
 
-small_tests : (soc : SocValue) → IsSoundChip soc → (before : List (TestId × TestId)) → All (λ (p : TestId × TestId). HasTest soc p.0 × HasTest soc p.1) before → AreSmallTests before
-small_tests soc sound [] all = tt
-small_tests soc sound (p ∷ before) all =
-    let h = All-head (λ (p : TestId × TestId). HasTest soc p.0 × HasTest soc p.1) p before all in
-    (small_test soc p.0 sound h.0, small_test soc p.1 sound h.1, small_tests soc sound before (All-tail (λ (p : TestId × TestId). HasTest soc p.0 × HasTest soc p.1) p before all))
+module _ (soc : SocValue) (sound : IsSoundChip soc) where
+  small_tests : (before : List (TestId × TestId)) → All (λ (p : TestId × TestId). HasTest soc p.0 × HasTest soc p.1) before → AreSmallTests before
+  small_tests [] all = tt
+  small_tests (p ∷ before) all =
+      let h = All-head (λ (p : TestId × TestId). HasTest soc p.0 × HasTest soc p.1) p before all in
+      (small_test soc p.0 sound h.0, small_test soc p.1 sound h.1, small_tests before (All-tail (λ (p : TestId × TestId). HasTest soc p.0 × HasTest soc p.1) p before all))
 
-small_profiles : (soc : SocValue) → IsSoundChip soc → (profiles : List ProfileValue) → All (IsSoundProfile soc) profiles → AreSmallProfiles profiles
-small_profiles soc sound [] all = tt
-small_profiles soc sound (p ∷ profiles) all =
-    (small_test soc p.test sound (All-head (IsSoundProfile soc) p profiles all).test, small_profiles soc sound profiles (All-tail (IsSoundProfile soc) p profiles all))
+  small_profiles : (profiles : List ProfileValue) → All (IsSoundProfile soc) profiles → AreSmallProfiles profiles
+  small_profiles [] all = tt
+  small_profiles (p ∷ profiles) all =
+      (small_test soc p.test sound (All-head (IsSoundProfile soc) p profiles all).test, small_profiles profiles (All-tail (IsSoundProfile soc) p profiles all))
 
 -- ---- the lines before the profiles
 
@@ -109,23 +111,27 @@ record Front (whole : List Word) (form : Bool) (rest : List ℕ) (limits : Limit
   limits_are : limits_of now ≡ limits
   wires : has_amount Wires now ≡ true
 
-front_from : (whole : List Word) (form : Bool) (items : List Item) (line : ℕ) (rest : List ℕ) (w : ℕ) (o : Option ℕ) (before : List (TestId × TestId)) (b : ℕ) → b ≤ BUDGET_MOST → AreSmallTests before → has_amount Budget items ≡ false → has_amount Wires items ≡ true
-    → record (limits_of items) { budget = b; before = (limits_of items).before ++ before } ≡ plain w o before b
-    → Printed whole form items line (number_line (codes "Budget") b ++ (flat_map before_line before ++ rest)) → Front whole form rest (plain w o before b)
-front_from whole form items line rest w o before b few small once wires is p =
-    let q = amount_goes whole form items line (flat_map before_line before ++ rest) (codes "Budget") Budget b budget_is (omega arith) budget_in_word (le_true b BUDGET_MOST few) (omega (arith, few)) once p in
-    let k = befores_go whole form (amount_item Budget b ∷ items) (line + 1) rest before small q in
-    record { now = k.now; line = k.line; printed = k.printed; limits_are = k.limits_are ∙ is; wires = k.amounts Wires ∙ wires }
+module _ (whole : List Word) (form : Bool) where
+  front_from : (items : List Item) (line : ℕ) (rest : List ℕ) (w : ℕ) (o : Option ℕ) (before : List (TestId × TestId)) (b : ℕ) → b ≤ BUDGET_MOST
+      → AreSmallTests before → has_amount Budget items ≡ false → has_amount Wires items ≡ true
+      → record (limits_of items) { budget = b; before = (limits_of items).before ++ before } ≡ plain w o before b
+      → Printed whole form items line (number_line (codes "Budget") b ++ (flat_map before_line before ++ rest)) → Front whole form rest (plain w o before b)
+  front_from items line rest w o before b few small once wires is p =
+      let q = amount_goes whole form items line (flat_map before_line before ++ rest) (codes "Budget") Budget b budget_is (omega arith) budget_in_word (le_true b BUDGET_MOST few) (omega (arith, few)) once p in
+      let k = befores_go whole form (amount_item Budget b ∷ items) (line + 1) rest before small q in
+      record { now = k.now; line = k.line; printed = k.printed; limits_are = k.limits_are ∙ is; wires = k.amounts Wires ∙ wires }
 
-front : (whole : List Word) (form : Bool) (rest : List ℕ) (w : ℕ) (o : Option ℕ) (before : List (TestId × TestId)) (b : ℕ) → 1 ≤ w → w ≤ WIRES_MOST → IfSome o (λ most. most ≤ POWER_MOST) → b ≤ BUDGET_MOST → AreSmallTests before
-    → Printed whole form [] 2 (number_line (codes "Wires") w ++ (power_lines o ++ (number_line (codes "Budget") b ++ (flat_map before_line before ++ rest)))) → Front whole form rest (plain w o before b)
-front whole form rest w None before b some most power few small p =
-    let q = amount_goes whole form [] 2 (number_line (codes "Budget") b ++ (flat_map before_line before ++ rest)) (codes "Wires") Wires w wires_is (omega arith) wires_in_word (wires_range w some most) (omega (arith, most)) refl p in
-    front_from whole form (amount_item Wires w ∷ []) (2 + 1) rest w None before b few small refl refl refl q
-front whole form rest w (Some n) before b some most power few small p =
-    let q = amount_goes whole form [] 2 (number_line (codes "Power") n ++ (number_line (codes "Budget") b ++ (flat_map before_line before ++ rest))) (codes "Wires") Wires w wires_is (omega arith) wires_in_word (wires_range w some most) (omega (arith, most)) refl p in
-    let r = amount_goes whole form (amount_item Wires w ∷ []) (2 + 1) (number_line (codes "Budget") b ++ (flat_map before_line before ++ rest)) (codes "Power") Power n power_is (omega arith) power_in_word (le_true n POWER_MOST power) (omega (arith, power)) refl q in
-    front_from whole form (amount_item Power n ∷ amount_item Wires w ∷ []) ((2 + 1) + 1) rest w (Some n) before b few small refl refl refl r
+  front : (rest : List ℕ) (w : ℕ) (o : Option ℕ) (before : List (TestId × TestId)) (b : ℕ) → 1 ≤ w → w ≤ WIRES_MOST → IfSome o (λ most. most ≤ POWER_MOST)
+      → b ≤ BUDGET_MOST → AreSmallTests before
+      → Printed whole form [] 2 (number_line (codes "Wires") w ++ (power_lines o ++ (number_line (codes "Budget") b ++ (flat_map before_line before ++ rest))))
+      → Front whole form rest (plain w o before b)
+  front rest w None before b some most power few small p =
+      let q = amount_goes whole form [] 2 (number_line (codes "Budget") b ++ (flat_map before_line before ++ rest)) (codes "Wires") Wires w wires_is (omega arith) wires_in_word (wires_range w some most) (omega (arith, most)) refl p in
+      front_from (amount_item Wires w ∷ []) (2 + 1) rest w None before b few small refl refl refl q
+  front rest w (Some n) before b some most power few small p =
+      let q = amount_goes whole form [] 2 (number_line (codes "Power") n ++ (number_line (codes "Budget") b ++ (flat_map before_line before ++ rest))) (codes "Wires") Wires w wires_is (omega arith) wires_in_word (wires_range w some most) (omega (arith, most)) refl p in
+      let r = amount_goes whole form (amount_item Wires w ∷ []) (2 + 1) (number_line (codes "Budget") b ++ (flat_map before_line before ++ rest)) (codes "Power") Power n power_is (omega arith) power_in_word (le_true n POWER_MOST power) (omega (arith, power)) refl q in
+      front_from (amount_item Power n ∷ amount_item Wires w ∷ []) ((2 + 1) + 1) rest w (Some n) before b few small refl refl refl r
 
 -- ---- whole texts
 
@@ -177,3 +183,47 @@ said_by soc w o before b (x ∷ profiles) sound s =
 -- the printed text of sound limits says them
 pub printed_said : (soc : SocValue) (limits : LimitsValue) → IsSoundChip soc → IsSoundLimits soc limits → SaysLimits (limits_text limits) limits
 printed_said soc limits sound s = said_by soc limits.wires limits.power limits.before limits.budget limits.profiles sound s
+
+-- ---- the printed text of sound limits is read as these limits
+
+all_pushed : {X : Type 0} (P : X → Type 0) (xs : List X) (y : X) → All P (xs ++ y ∷ []) → All P xs × P y
+all_pushed P [] y all = (All-nil P, All-head P y [] all)
+all_pushed P (x ∷ xs) y all =
+    let k = all_pushed P xs y (All-tail P x (xs ++ y ∷ []) all) in
+    (All-cons P x xs (All-head P x (xs ++ y ∷ []) all) k.0, k.1)
+
+abbrev Known : SocValue → TestId × TestId → Type 0
+Known soc p = HasTest soc p.0 × HasTest soc p.1
+
+abbrev HasKnown : SocValue → ProfileValue → Type 0
+HasKnown soc p = HasTest soc p.test
+
+module _ (soc : SocValue) where
+  -- an item whose tests are known goes on with none that is unknown
+  none_more : (x : Item) (earlier : List Item) → first_unknown soc earlier ≡ None → unknown_line soc x ≡ None → first_unknown soc (x ∷ earlier) ≡ None
+  none_more x earlier e f = unknown_more soc x earlier ∙ ap (λ o. or_first o (or_first (unknown_line soc x) None)) e ∙ ap (λ o. or_first o None) f
+
+  -- items whose limits name known tests alone name none that is unknown
+  all_known : (items : List Item) → All (Known soc) (limits_of items).before → All (HasKnown soc) (limits_of items).profiles → first_unknown soc items ≡ None
+  all_known [] before profiles = refl
+  all_known (before_item line a b ∷ earlier) before profiles =
+      let k = all_pushed (Known soc) (limits_of earlier).before (a, b) before in
+      let a_known : is_known soc a ≡ true = k.1.0 in
+      let b_known : is_known soc b ≡ true = k.1.1 in
+      none_more (before_item line a b) earlier (all_known earlier k.0 profiles) (rw a_known (rw b_known refl))
+  all_known (profile_item line id steps ∷ earlier) before profiles =
+      let k = all_pushed (HasKnown soc) (limits_of earlier).profiles (record { test = id; steps = steps }) profiles in
+      let known : is_known soc id ≡ true = k.1 in
+      none_more (profile_item line id steps) earlier (all_known earlier before k.0) (rw known refl)
+  all_known (amount_item Wires n ∷ earlier) before profiles = none_more (amount_item Wires n) earlier (all_known earlier before profiles) refl
+  all_known (x ∷ earlier) before profiles = none_more x earlier (all_known earlier before profiles) refl
+
+pub printed_read : PrintedLimitsAreRead
+printed_read soc limits sound s =
+    let says = printed_said soc limits sound s in
+    let before = subst (λ (l : LimitsValue). All (Known soc) l.before) says.limits_are s.before in
+    let profiles = subst (λ (l : LimitsValue). All (HasKnown soc) l.profiles) says.limits_are (All-weaker (IsSoundProfile soc) (HasKnown soc) (λ p h. h.test) limits.profiles s.profiles) in
+    record { said = record { says = says; known = all_known soc says.items before profiles }; sound = s }
+
+pub printed_answered : PrintedLimitsAreAnswered
+printed_answered soc limits answer sound s is = answered (limits_text limits) soc answer (read_as limits) is (printed_read soc limits sound s)

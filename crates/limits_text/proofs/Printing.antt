@@ -1,12 +1,18 @@
--- Reading the text of limits gives them again.
-use Rattle.std.proofs.Common.{◌≡◌, ◌⊎◌, inl, inr, ℕ, zero, suc, ◌+◌, ◌<◌, ◌≤◌, List, [], ◌∷◌, ◌++◌, length, codes, decimal, Bool, true, false, ◌||◌, Some, slice_get, refl, sym, ◌∙◌, ap, subst, arith, append_assoc, append-nil}
-use Rattle.std.specs.List.{All, flat_map}
-use Rattle.std.proofs.lemmas.List.Elements.{All-head, All-tail, All-weaker}
-use Rattle.std.proofs.lemmas.Option.{slice_get_within}
+-- Limits are printed, and the words of what is printed.
+use Rattle.std.proofs.Common.{◌≡◌, ℕ, ◌+◌, ◌<◌, ◌≤◌, ◌^◌, List, [], ◌∷◌, ◌++◌, length, get_or, take, codes, decimal, refl, sym, ◌∙◌, ap, arith, append_assoc, inl, inr, Bool, true, false, Some, slice_get, subst, append-nil, flat_map, All}
+use Rattle.std.proofs.lemmas.List.{flat_map_more, take_more}
+use Rattle.std.proofs.lemmas.Fmt.{decimal_nonempty}
 use Rattle.outside.specs.Words.{words_left, AllInWord, IsEnd, Word}
+use Rattle.outside.proofs.DecimalLemmas.{decimal_in_word}
 use Rattle.outside.proofs.WordLemmas.{first_word}
 use Rattle.soc_model.specs.declared.TestId.{TestId}
 use Rattle.soc_model.specs.declared.TheConstants.{NUMBER_WORD_MOST, POWER_MOST}
+use Rattle.limits_text.specs.Items.{NamesTest, ArePairs, key_of, is_in_range, Item, amount_item, before_item, profile_item, has_amount, has_profile, AreSteps}
+use Rattle.outside.specs.Decimal.{spaced_number}
+use Rattle.limits_text.specs.Texts.{test_fields, number_line, before_line, step_fields, profile_line}
+use Rattle.limits_text.proofs.WordFacts.{number-decimal}
+use Rattle.std.proofs.lemmas.List.Elements.{All-head, All-tail, All-weaker}
+use Rattle.std.proofs.lemmas.Option.{slice_get_within}
 use Rattle.soc_model.specs.Chips.{SocValue, same_test}
 use Rattle.plan_model.specs.Plans.{ProfileValue}
 use Rattle.plan_model.specs.SoundLimits.{IsSoundProfile}
@@ -14,15 +20,96 @@ use Rattle.plan_model.proofs.CertificatesAreBounds.{same_test_is}
 use Rattle.limits_text.specs.declared.items.Amount.{Amount}
 use Rattle.limits_text.specs.declared.items.Amount.TheVariants.{Wires, Power, Budget}
 use Rattle.limits_text.specs.declared.items.Key.TheVariants.{One, Before, Profile}
-use Rattle.limits_text.specs.Items.{key_of, is_in_range, Item, amount_item, before_item, profile_item, has_amount, has_profile, AreSteps}
 use Rattle.limits_text.specs.Grammar.{Comes, AreItems}
 use Rattle.limits_text.specs.Meaning.{limits_of}
-use Rattle.limits_text.specs.Texts.{test_fields, number_line, before_line, step_fields, profile_line}
-use Rattle.limits_text.proofs.WordFacts.{number-decimal}
-use Rattle.limits_text.proofs.PrintedWords.{IsSmall, IsSmallTest, AreSmall, names_test, test_words, test_fields_words, number_line_words, before_words, before_line_words, pair_words, pairs_are, step_fields_words}
 use Rattle.limits_text.proofs.Taking.{false_from}
 use Rattle.common_lemmas.proofs.Lists.{at_seam, at_left}
 use Rattle.common_lemmas.proofs.Tests.{or_cases}
+
+-- ---- the words of printed limits
+
+-- a number that is a number word
+abbrev pub IsSmall : ℕ → Type 0
+IsSmall n = n ≤ NUMBER_WORD_MOST
+
+pub record IsSmallTest (id : TestId) : Type 0 where
+  pub module_small : IsSmall id.«module»
+  pub test_small : IsSmall id.test
+
+fits : (n : ℕ) → IsSmall n → n < 2 ^ 64
+fits n small = omega arith
+
+pub field_words : (line n : ℕ) (rest : List ℕ) → IsSmall n → IsEnd rest → words_left line (spaced_number n ++ rest) ≡ (decimal n, line) ∷ words_left line rest
+field_words line n rest small end = first_word line (decimal n) rest (decimal_nonempty n (fits n small)) (decimal_in_word n (fits n small)) end
+
+abbrev pub test_words : ℕ → TestId → List Word
+test_words line id = (decimal id.«module», line) ∷ (decimal id.test, line) ∷ []
+
+module _ (line : ℕ) (id : TestId) where
+  pub names_test : IsSmallTest id → NamesTest id (decimal id.«module», line) (decimal id.test, line)
+  names_test small = (number-decimal id.«module» small.module_small, number-decimal id.test small.test_small)
+
+  pub test_fields_words : (rest : List ℕ) → IsSmallTest id → IsEnd rest → words_left line (test_fields id ++ rest) ≡ test_words line id ++ words_left line rest
+  test_fields_words rest small end =
+      ap (words_left line) (append_assoc (spaced_number id.«module») (spaced_number id.test) rest)
+      ∙ field_words line id.«module» (spaced_number id.test ++ rest) small.module_small refl
+      ∙ ap (λ l. (decimal id.«module», line) ∷ l) (field_words line id.test rest small.test_small end)
+
+-- a line of a word and a number
+pub number_line_words : (line n : ℕ) (word rest : List ℕ) → 0 < length word → AllInWord word → IsSmall n → words_left line (number_line word n ++ rest) ≡ (word, line) ∷ (decimal n, line) ∷ words_left (line + 1) rest
+number_line_words line n word rest some all small =
+    ap (words_left line) (append_assoc (word ++ spaced_number n) (10 ∷ []) rest ∙ append_assoc word (spaced_number n) (10 ∷ rest))
+    ∙ first_word line word (spaced_number n ++ 10 ∷ rest) some all refl
+    ∙ ap (λ l. (word, line) ∷ l) (field_words line n (10 ∷ rest) small refl)
+
+abbrev pub before_words : ℕ → TestId × TestId → List Word
+before_words line p = (codes "Before", line) ∷ (decimal p.0.«module», line) ∷ (decimal p.0.test, line) ∷ (decimal p.1.«module», line) ∷ (decimal p.1.test, line) ∷ []
+
+before_in_word : AllInWord (codes "Before")
+before_in_word = (refl, (refl, (refl, (refl, (refl, (refl, tt))))))
+
+pub before_line_words : (line : ℕ) (p : TestId × TestId) (rest : List ℕ) → IsSmallTest p.0 → IsSmallTest p.1 → words_left line (before_line p ++ rest) ≡ before_words line p ++ words_left (line + 1) rest
+before_line_words line p rest a b =
+    ap (words_left line) (append_assoc (codes "Before" ++ test_fields p.0 ++ test_fields p.1) (10 ∷ []) rest ∙ append_assoc (codes "Before" ++ test_fields p.0) (test_fields p.1) (10 ∷ rest) ∙ append_assoc (codes "Before") (test_fields p.0) (test_fields p.1 ++ 10 ∷ rest))
+    ∙ first_word line (codes "Before") (test_fields p.0 ++ (test_fields p.1 ++ 10 ∷ rest)) (omega arith) before_in_word refl
+    ∙ ap (λ l. (codes "Before", line) ∷ l) (test_fields_words line p.0 (test_fields p.1 ++ 10 ∷ rest) a refl ∙ ap (λ l. test_words line p.0 ++ l) (test_fields_words line p.1 (10 ∷ rest) b refl))
+
+abbrev pub pair_words : ℕ → List (ℕ × ℕ) → List Word
+pair_words line [] = []
+pair_words line (s ∷ steps) = (decimal s.0, line) ∷ (decimal s.1, line) ∷ pair_words line steps
+
+abbrev pub AreSmall : List (ℕ × ℕ) → Type 0
+AreSmall [] = Unit {0}
+AreSmall (s ∷ steps) = IsSmall s.0 × IsSmall s.1 × AreSmall steps
+
+pub pairs_are : (line : ℕ) (steps : List (ℕ × ℕ)) → AreSmall steps → ArePairs (pair_words line steps) steps
+pairs_are line [] small = refl
+pairs_are line (s ∷ steps) small =
+    ((decimal s.0, line), (decimal s.1, line), pair_words line steps, refl, number-decimal s.0 small.0, number-decimal s.1 small.1, pairs_are line steps small.2)
+
+pub step_fields_words : (line : ℕ) (steps : List (ℕ × ℕ)) (rest : List ℕ) → AreSmall steps → IsEnd rest → words_left line (step_fields steps ++ rest) ≡ pair_words line steps ++ words_left line rest
+step_fields_words line [] rest small end = refl
+step_fields_words line (s ∷ steps) rest small end =
+    ap (words_left line) (append_assoc (spaced_number s.0 ++ spaced_number s.1) (step_fields steps) rest ∙ append_assoc (spaced_number s.0) (spaced_number s.1) (step_fields steps ++ rest))
+    ∙ field_words line s.0 (spaced_number s.1 ++ (step_fields steps ++ rest)) small.0 refl
+    ∙ ap (λ l. (decimal s.0, line) ∷ l) (field_words line s.1 (step_fields steps ++ rest) small.1 (ends steps)
+    ∙ ap (λ l. (decimal s.1, line) ∷ l) (step_fields_words line steps rest small.2 end))
+  where
+    ends : (steps : List (ℕ × ℕ)) → IsEnd (step_fields steps ++ rest)
+    ends [] = end
+    ends (t ∷ steps) = refl
+
+-- ---- the steps of a profile, one by one
+
+pub steps_more : (old so_far from new : List ℕ) (steps : List (ℕ × ℕ)) (i : ℕ) → i < length steps → so_far ≡ old ++ step_fields (take i steps) → from ≡ so_far ++ spaced_number (get_or steps i (0, 0)).0 → new ≡ from ++ spaced_number (get_or steps i (0, 0)).1
+    → new ≡ old ++ step_fields (take (i + 1) steps)
+steps_more old so_far from new steps i within before first second =
+    let f = λ (s : ℕ × ℕ). spaced_number s.0 ++ spaced_number s.1 in
+    let s = get_or steps i (0, 0) in
+    second ∙ ap (λ l. l ++ spaced_number s.1) (first ∙ ap (λ l. l ++ spaced_number s.0) before) ∙ append_assoc (old ++ step_fields (take i steps)) (spaced_number s.0) (spaced_number s.1)
+    ∙ flat_map_more f old (take i steps) s ∙ ap (λ l. old ++ flat_map f l) (sym (take_more steps i (0, 0) within))
+
+-- ---- reading the text of limits gives them again
 
 -- the words of the items of a text are these items, and then the words of the rest
 pub record Printed (whole : List Word) (form : Bool) (items : List Item) (line : ℕ) (rest : List ℕ) : Type 0 where
@@ -30,18 +117,21 @@ pub record Printed (whole : List Word) (form : Bool) (items : List Item) (line :
   pub words : whole ≡ front ++ words_left line rest
   pub are : AreItems form items front
 
-goes : (whole : List Word) (form : Bool) (items : List Item) (line next : ℕ) (text rest : List ℕ) (x : Item) (own : List Word) → Printed whole form items line text → words_left line text ≡ own ++ words_left next rest → Comes form items x own → Printed whole form (x ∷ items) next rest
-goes whole form items line next text rest x own p e comes = record {
-  front = p.front ++ own;
-  words = p.words ∙ ap (λ l. p.front ++ l) e ∙ sym (append_assoc p.front own (words_left next rest));
-  are = (p.front, own, refl, p.are, comes);
-}
+module _ (whole : List Word) (form : Bool) (items : List Item) (line : ℕ) where
+  goes : (next : ℕ) (text rest : List ℕ) (x : Item) (own : List Word) → Printed whole form items line text → words_left line text ≡ own ++ words_left next rest
+      → Comes form items x own → Printed whole form (x ∷ items) next rest
+  goes next text rest x own p e comes = record {
+    front = p.front ++ own;
+    words = p.words ∙ ap (λ l. p.front ++ l) e ∙ sym (append_assoc p.front own (words_left next rest));
+    are = (p.front, own, refl, p.are, comes);
+  }
 
-pub amount_goes : (whole : List Word) (form : Bool) (items : List Item) (line : ℕ) (rest word : List ℕ) (a : Amount) (n : ℕ) → key_of word ≡ Some (One a) → 0 < length word → AllInWord word → is_in_range a n ≡ true → IsSmall n → has_amount a items ≡ false
-    → Printed whole form items line (number_line word n ++ rest) → Printed whole form (amount_item a n ∷ items) (line + 1) rest
-amount_goes whole form items line rest word a n key some all range small once p =
-    goes whole form items line (line + 1) (number_line word n ++ rest) rest (amount_item a n) ((word, line) ∷ (decimal n, line) ∷ []) p (number_line_words line n word rest some all small)
-    (record { first = (word, line); second = (decimal n, line); words = refl; keyword = key; value = number-decimal n small; range = range; once = once })
+  pub amount_goes : (rest word : List ℕ) (a : Amount) (n : ℕ) → key_of word ≡ Some (One a) → 0 < length word → AllInWord word → is_in_range a n ≡ true
+      → IsSmall n → has_amount a items ≡ false → Printed whole form items line (number_line word n ++ rest)
+      → Printed whole form (amount_item a n ∷ items) (line + 1) rest
+  amount_goes rest word a n key some all range small once p =
+      goes (line + 1) (number_line word n ++ rest) rest (amount_item a n) ((word, line) ∷ (decimal n, line) ∷ []) p (number_line_words line n word rest some all small)
+      (record { first = (word, line); second = (decimal n, line); words = refl; keyword = key; value = number-decimal n small; range = range; once = once })
 
 -- ---- precedences
 
@@ -145,12 +235,10 @@ profile_in (amount_item Wires n ∷ items) id e = profile_in items id e
 profile_in (amount_item Power n ∷ items) id e = profile_in items id e
 profile_in (amount_item Budget n ∷ items) id e = profile_in items id e
 profile_in (before_item line a b ∷ items) id e = profile_in items id e
-profile_in (profile_item line other steps ∷ items) id e = by (or_cases (same_test id other) (has_profile id items) e) (profile_in items id)
-  where
-    by : (same_test id other ≡ true) ⊎ (has_profile id items ≡ true) → (has_profile id items ≡ true → (q : ℕ) × (x : ProfileValue) × (slice_get (limits_of items).profiles q ≡ Some x) × (x.test ≡ id))
-        → (q : ℕ) × (x : ProfileValue) × (slice_get (limits_of (profile_item line other steps ∷ items)).profiles q ≡ Some x) × (x.test ≡ id)
-    by (inl f) again = (length (limits_of items).profiles, record { test = other; steps = steps }, at_seam (limits_of items).profiles [] (record { test = other; steps = steps }), sym (same_test_is id other f))
-    by (inr f) again = let k = again f in (k.0, k.1, at_left (limits_of items).profiles (record { test = other; steps = steps } ∷ []) k.0 k.1 k.2, k.3)
+profile_in (profile_item line other steps ∷ items) id e = elim (or_cases (same_test id other) (has_profile id items) e) [
+  | inl f ↦ (length (limits_of items).profiles, record { test = other; steps = steps }, at_seam (limits_of items).profiles [] (record { test = other; steps = steps }), sym (same_test_is id other f))
+  | inr f ↦ let k = profile_in items id f in (k.0, k.1, at_left (limits_of items).profiles (record { test = other; steps = steps } ∷ []) k.0 k.1 k.2, k.3)
+]
 
 abbrev pub OneEach : List ProfileValue → Type 0
 OneEach profiles = (p q : ℕ) (x y : ProfileValue) → slice_get profiles p ≡ Some x → slice_get profiles q ≡ Some y → x.test ≡ y.test → p ≡ q

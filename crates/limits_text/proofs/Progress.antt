@@ -1,6 +1,5 @@
 -- How far a text was read.
-use Rattle.std.proofs.Common.{◌≡◌, ◌≤◌, List, [], ◌∷◌, ◌++◌, length, Some, None, ◌∙◌, ap, subst}
-use Rattle.std.specs.Prelude.{Result, Ok, Err, IfOk}
+use Rattle.std.proofs.Common.{◌≡◌, ◌≤◌, List, [], ◌∷◌, ◌++◌, length, Some, None, ◌∙◌, ap, subst, Result, Ok, Err, IfOk}
 use Rattle.outside.specs.declared.reading.Stop.{Stop}
 use Rattle.outside.specs.declared.reading.Stop.TheVariants.{Refused, NoMemory}
 use Rattle.outside.specs.Words.{Word}
@@ -17,17 +16,19 @@ use Rattle.limits_text.specs.Reads.{state_of, HasRead, AreItems}
 use Rattle.outside.proofs.Runs.{run-one_more}
 use Rattle.limits_text.proofs.Viable.{read_text, stops_here, ends_here}
 
-pub goes_on : (front : List Word) (w : Word) (text next : LimitsText) (before : ReadSoFar) → before ≡ text.read.value → HasRead text front →
-    Steps (step_at before.items.second (done_of before.items) (part_of before.part) w) (Ok tt) next.read.value.part next.read.value.items → HasRead next (front ++ w ∷ [])
-goes_on front w text next before is has steps =
-    let here = subst (λ (b : ReadSoFar). Steps (step_at b.items.second (done_of b.items) (part_of b.part) w) (Ok tt) next.read.value.part next.read.value.items) is steps in
-    record { read = run-one_more step (Some start) front w (state_of text) has.read ∙ here.0; in_step = here.1 }
+module _ (front : List Word) (w : Word) (text : LimitsText) where
+  pub goes_on : (next : LimitsText) (before : ReadSoFar) → before ≡ text.read.value → HasRead text front
+      → Steps (step_at before.items.second (done_of before.items) (part_of before.part) w) (Ok tt) next.read.value.part next.read.value.items
+      → HasRead next (front ++ w ∷ [])
+  goes_on next before is has steps =
+      let here = subst (λ (b : ReadSoFar). Steps (step_at b.items.second (done_of b.items) (part_of b.part) w) (Ok tt) next.read.value.part next.read.value.items) is steps in
+      record { read = run-one_more step (Some start) front w (state_of text) has.read ∙ here.0; in_step = here.1 }
 
-pub stops : (front : List Word) (w : Word) (text : LimitsText) (before : ReadSoFar) (part : Part) (new : Items) (stop : Stop) → before ≡ text.read.value → length front ≤ NUMBER_WORD_MOST → HasRead text front →
-    Steps (step_at before.items.second (done_of before.items) (part_of before.part) w) (Err stop) part new → Goes InGrammar HasRead front w (Err stop)
-stops front w text before part new Refused is few has steps =
-    stops_here front w (state_of text) few has.read (subst (λ (b : ReadSoFar). step_at b.items.second (done_of b.items) (part_of b.part) w ≡ None) is steps)
-stops front w text before part new NoMemory is few has steps = tt
+  pub stops : (before : ReadSoFar) (part : Part) (new : Items) (stop : Stop) → before ≡ text.read.value → length front ≤ NUMBER_WORD_MOST → HasRead text front
+      → Steps (step_at before.items.second (done_of before.items) (part_of before.part) w) (Err stop) part new → Goes InGrammar HasRead front w (Err stop)
+  stops before part new Refused is few has steps =
+      stops_here front w (state_of text) few has.read (subst (λ (b : ReadSoFar). step_at b.items.second (done_of b.items) (part_of b.part) w ≡ None) is steps)
+  stops before part new NoMemory is few has steps = tt
 
 -- what an answer says of the end
 pub ends : (words : List Word) (text : LimitsText) (before : ReadSoFar) (answer : Result Items Stop) → before ≡ text.read.value → length words ≤ NUMBER_WORD_MOST → HasRead text words →

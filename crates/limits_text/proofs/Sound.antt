@@ -1,9 +1,8 @@
 -- What is read word by word stands for items and an unfinished item.
-use Rattle.std.proofs.Common.{◌≡◌, ℕ, ◌+◌, ◌<◌, ◌≤◌, List, [], ◌∷◌, ◌++◌, length, Bool, true, false, ◌&&◌, not, Option, None, Some, nat_eq, nat_lt, refl, sym, ◌∙◌, ap, subst, arith, append_assoc, append-nil, length-append}
-use Rattle.std.specs.Prelude.{nat_le}
+use Rattle.std.proofs.Common.{◌≡◌, ℕ, ◌+◌, ◌<◌, ◌≤◌, List, [], ◌∷◌, ◌++◌, length, Bool, true, false, ◌&&◌, not, Option, None, Some, nat_eq, nat_lt, refl, sym, ◌∙◌, ap, subst, arith, append_assoc, append-nil, length-append, inl, inr, nat_le}
 use Rattle.std.proofs.lemmas.List.Elements.{All-nil, All-push}
 use Rattle.std.proofs.lemmas.Bool.Decides.{nat_tests}
-use Rattle.std.proofs.lemmas.Bool.{eqb-true, and_parts}
+use Rattle.std.proofs.lemmas.Bool.{eqb-true, and_parts, cases_Bool}
 use Rattle.std.proofs.lemmas.Option.{same_Some}
 use Rattle.soc_model.specs.declared.TestId.{TestId}
 use Rattle.soc_model.specs.declared.TheConstants.{POWER_MOST}
@@ -18,7 +17,7 @@ use Rattle.limits_text.specs.declared.items.Naming.TheVariants.{First, Second, P
 use Rattle.outside.specs.Words.{Word}
 use Rattle.limits_text.specs.Items.{number, is_title, key_of, is_in_range, Item, amount_item, before_item, profile_item, has_amount, has_profile, NamesTest, ArePairs, AreSteps}
 use Rattle.limits_text.specs.Grammar.{Comes, AreItems, form_number, IsText}
-use Rattle.limits_text.specs.Steps.{ended_at, Part, title, version, between, wants, module_for, test_for, steps_for, power_for, State, start, at, at_if, last_from, may_follow, begin_by, after_title, after_version, after_amount, after_module, named, after_test, end_profile, after_step, after_power, step_at, step_from, run}
+use Rattle.limits_text.specs.Steps.{ended_at, Part, title, version, between, wants, module_for, test_for, steps_for, power_for, State, start, at, at_if, last_from, may_follow, begin_by, after_title, after_version, after_amount, after_module, after_test, end_profile, after_step, after_power, step_at, step_from, run}
 use Rattle.common_lemmas.proofs.Tests.{le_from_true, less_from_true}
 
 -- ---- what was read of an unfinished item
@@ -133,68 +132,49 @@ Holds (Some s) ws = StateIs s.form s.done s.part ws
 
 -- ---- one more word
 
-more_words : (ws front own : List Word) (t v w : Word) → ws ≡ t ∷ v ∷ (front ++ own) → ws ++ w ∷ [] ≡ t ∷ v ∷ (front ++ (own ++ w ∷ []))
-more_words ws front own t v w e = ap (λ l. l ++ w ∷ []) e ∙ ap (λ l. t ∷ v ∷ l) (append_assoc front own (w ∷ []))
+module _ {form : Bool} {done : List Item} {part : Part} {ws : List Word} (v : Valid form done part ws) where
+  longer : (w : Word) → ws ++ w ∷ [] ≡ v.first ∷ v.second ∷ (v.front ++ (v.own ++ w ∷ []))
+  longer w = ap (λ l. l ++ w ∷ []) v.words ∙ ap (λ l. v.first ∷ v.second ∷ l) (append_assoc v.front v.own (w ∷ []))
 
-goes : (form : Bool) (done : List Item) (part next : Part) (ws : List Word) (w : Word) → (v : Valid form done part ws) → PartIs form done next (v.own ++ w ∷ []) → Valid form done next (ws ++ w ∷ [])
-goes form done part next ws w v is = record {
-  first = v.first;
-  second = v.second;
-  front = v.front;
-  own = v.own ++ w ∷ [];
-  words = more_words ws v.front v.own v.first v.second w v.words;
-  title_is = v.title_is;
-  version_is = v.version_is;
-  before = v.before;
-  unfinished = is;
-}
+  -- the unfinished item goes on
+  goes : (next : Part) (w : Word) → PartIs form done next (v.own ++ w ∷ []) → Valid form done next (ws ++ w ∷ [])
+  goes next w is = record {
+    first = v.first;
+    second = v.second;
+    front = v.front;
+    own = v.own ++ w ∷ [];
+    words = longer w;
+    title_is = v.title_is;
+    version_is = v.version_is;
+    before = v.before;
+    unfinished = is;
+  }
 
-adds : (form : Bool) (done : List Item) (part : Part) (x : Item) (ws : List Word) (w : Word) → (v : Valid form done part ws) → Comes form done x (v.own ++ w ∷ []) → Valid form (x ∷ done) between (ws ++ w ∷ [])
-adds form done part x ws w v comes = record {
-  first = v.first;
-  second = v.second;
-  front = v.front ++ (v.own ++ w ∷ []);
-  own = [];
-  words = more_words ws v.front v.own v.first v.second w v.words ∙ ap (λ l. v.first ∷ v.second ∷ l) (sym (append-nil (v.front ++ (v.own ++ w ∷ []))));
-  title_is = v.title_is;
-  version_is = v.version_is;
-  before = (v.front, v.own ++ w ∷ [], refl, v.before, comes);
-  unfinished = refl;
-}
+  -- it is a whole one
+  given : (x : Item) (all own : List Word) → all ≡ v.first ∷ v.second ∷ (v.front ++ own) → Comes form done x own → Valid form (x ∷ done) between all
+  given x all own words comes = record {
+    first = v.first;
+    second = v.second;
+    front = v.front ++ own;
+    own = [];
+    words = words ∙ ap (λ l. v.first ∷ v.second ∷ l) (sym (append-nil (v.front ++ own)));
+    title_is = v.title_is;
+    version_is = v.version_is;
+    before = (v.front, own, refl, v.before, comes);
+    unfinished = refl;
+  }
 
-ends : (form : Bool) (done : List Item) (part : Part) (x : Item) (ws : List Word) → (v : Valid form done part ws) → Comes form done x v.own → Valid form (x ∷ done) between ws
-ends form done part x ws v comes = record {
-  first = v.first;
-  second = v.second;
-  front = v.front ++ v.own;
-  own = [];
-  words = v.words ∙ ap (λ l. v.first ∷ v.second ∷ l) (sym (append-nil (v.front ++ v.own)));
-  title_is = v.title_is;
-  version_is = v.version_is;
-  before = (v.front, v.own, refl, v.before, comes);
-  unfinished = refl;
-}
+  adds : (x : Item) (w : Word) → Comes form done x (v.own ++ w ∷ []) → Valid form (x ∷ done) between (ws ++ w ∷ [])
+  adds x w comes = given x (ws ++ w ∷ []) (v.own ++ w ∷ []) (longer w) comes
 
--- a keyword
-begin_valid : (form : Bool) (done : List Item) (ws : List Word) (w : Word) (k : Option Key) → key_of w.0 ≡ k → Valid form done between ws → Holds (begin_by form done w.1 k) (ws ++ w ∷ [])
-begin_valid form done ws w None e v = tt
-begin_valid form done ws w (Some (One a)) e v = by (has_amount a done) refl
-  where
-    by : (b : Bool) → has_amount a done ≡ b → Holds (at_if (not b) (at form done (wants a))) (ws ++ w ∷ [])
-    by true is = tt
-    by false is = goes form done between (wants a) ws w v (record { key = w; words = ap (λ l. l ++ w ∷ []) v.unfinished; keyword = e; once = is })
-begin_valid form done ws w (Some Before) e v =
-    goes form done between (module_for (First w.1)) ws w v (record { key = w; words = ap (λ l. l ++ w ∷ []) v.unfinished; keyword = e; here = refl })
-begin_valid form done ws w (Some Profile) e v = by form refl
-  where
-    by : (b : Bool) → form ≡ b → Holds (at_if b (at form done (module_for (Profiled w.1)))) (ws ++ w ∷ [])
-    by false is = tt
-    by true is = goes form done between (module_for (Profiled w.1)) ws w v (record { key = w; words = ap (λ l. l ++ w ∷ []) v.unfinished; keyword = e; here = refl; has_form = is })
+-- two words of a test, after the words of its naming
+two_words : (own front before : List Word) (m w : Word) → own ≡ front ++ m ∷ [] → front ≡ before → own ++ w ∷ [] ≡ before ++ m ∷ w ∷ []
+two_words own front before m w e f = ap (λ l. l ++ w ∷ []) (e ∙ ap (λ l. l ++ m ∷ []) f) ∙ append_assoc before (m ∷ []) (w ∷ [])
 
 -- the form's number
-version_valid : (done : List Item) (ws : List Word) (w : Word) (o : Option ℕ) → number w.0 ≡ o → TitleRead done ws → Holds (after_version done o) (ws ++ w ∷ [])
-version_valid done ws w None e r = tt
-version_valid done ws w (Some n) e r = by (nat_le 1 n && nat_le n 2) (nat_eq n 2) refl refl
+version_valid : {done : List Item} {ws : List Word} (w : Word) (o : Option ℕ) → number w.0 ≡ o → TitleRead done ws → Holds (after_version done o) (ws ++ w ∷ [])
+version_valid w None e r = tt
+version_valid {done} {ws} w (Some n) e r = by (nat_le 1 n && nat_le n 2) (nat_eq n 2) refl refl
   where
     one_or_two : (n : ℕ) (b : Bool) → (nat_le 1 n && nat_le n 2) ≡ true → nat_eq n 2 ≡ b → n ≡ form_number b
     one_or_two n true e f = eqb-true n 2 f
@@ -214,126 +194,110 @@ version_valid done ws w (Some n) e r = by (nat_le 1 n && nat_le n 2) (nat_eq n 2
       unfinished = refl;
     }
 
-title_valid : (form : Bool) (done : List Item) (ws : List Word) (w : Word) (b : Bool) → is_title w.0 ≡ b → NothingRead done ws → Holds (after_title form done b) (ws ++ w ∷ [])
-title_valid form done ws w false e r = tt
-title_valid form done ws w true e r = record { first = w; words = ap (λ l. l ++ w ∷ []) r.words; title_is = e; none = r.none }
+title_valid : (form : Bool) {done : List Item} {ws : List Word} (w : Word) (b : Bool) → is_title w.0 ≡ b → NothingRead done ws → Holds (after_title form done b) (ws ++ w ∷ [])
+title_valid form w false e r = tt
+title_valid form w true e r = record { first = w; words = ap (λ l. l ++ w ∷ []) r.words; title_is = e; none = r.none }
 
-amount_valid : (form : Bool) (done : List Item) (a : Amount) (ws : List Word) (w : Word) (o : Option ℕ) → number w.0 ≡ o → Valid form done (wants a) ws → Holds (after_amount form done a o) (ws ++ w ∷ [])
-amount_valid form done a ws w None e v = tt
-amount_valid form done a ws w (Some n) e v = by (is_in_range a n) refl
-  where
-    by : (b : Bool) → is_in_range a n ≡ b → Holds (at_if b (at form (amount_item a n ∷ done) between)) (ws ++ w ∷ [])
-    by false is = tt
-    by true is = adds form done (wants a) (amount_item a n) ws w v (record {
-      first = v.unfinished.key;
-      second = w;
-      words = ap (λ l. l ++ w ∷ []) v.unfinished.words;
-      keyword = v.unfinished.keyword;
-      value = e;
-      range = is;
-      once = v.unfinished.once;
-    })
+module _ {form : Bool} {done : List Item} {ws : List Word} (w : Word) where
+  -- a keyword
+  begin_valid : (k : Option Key) → key_of w.0 ≡ k → Valid form done between ws → Holds (begin_by form done w.1 k) (ws ++ w ∷ [])
+  begin_valid None e v = tt
+  begin_valid (Some (One a)) e v = elim (cases_Bool (has_amount a done)) [
+    | inl is ↦ rw is tt
+    | inr is ↦ rw is (goes v (wants a) w (record { key = w; words = ap (λ l. l ++ w ∷ []) v.unfinished; keyword = e; once = is }))
+  ]
+  begin_valid (Some Before) e v = goes v (module_for (First w.1)) w (record { key = w; words = ap (λ l. l ++ w ∷ []) v.unfinished; keyword = e; here = refl })
+  begin_valid (Some Profile) e v = by form refl
+    where
+      by : (b : Bool) → form ≡ b → Holds (at_if b (at form done (module_for (Profiled w.1)))) (ws ++ w ∷ [])
+      by false is = tt
+      by true is = goes v (module_for (Profiled w.1)) w (record { key = w; words = ap (λ l. l ++ w ∷ []) v.unfinished; keyword = e; here = refl; has_form = is })
 
-module_valid : (form : Bool) (done : List Item) (n : Naming) (ws : List Word) (w : Word) (o : Option ℕ) → number w.0 ≡ o → Valid form done (module_for n) ws → Holds (after_module form done n o) (ws ++ w ∷ [])
-module_valid form done n ws w None e v = tt
-module_valid form done n ws w (Some m) e v = goes form done (module_for n) (test_for n m) ws w v (record { front = v.own; last = w; words = refl; naming = v.unfinished; value = e })
+  amount_valid : (a : Amount) (o : Option ℕ) → number w.0 ≡ o → Valid form done (wants a) ws → Holds (after_amount form done a o) (ws ++ w ∷ [])
+  amount_valid a None e v = tt
+  amount_valid a (Some n) e v = elim (cases_Bool (is_in_range a n)) [
+    | inl is ↦
+        let u = v.unfinished in
+        rw is (adds v (amount_item a n) w (record { first = u.key; second = w; words = ap (λ l. l ++ w ∷ []) u.words; keyword = u.keyword; value = e; range = is; once = u.once }))
+    | inr is ↦ rw is tt
+  ]
 
--- two words of a test, after the words of its naming
-two_words : (own front before : List Word) (m w : Word) → own ≡ front ++ m ∷ [] → front ≡ before → own ++ w ∷ [] ≡ before ++ m ∷ w ∷ []
-two_words own front before m w e f = ap (λ l. l ++ w ∷ []) (e ∙ ap (λ l. l ++ m ∷ []) f) ∙ append_assoc before (m ∷ []) (w ∷ [])
+  module_valid : (n : Naming) (o : Option ℕ) → number w.0 ≡ o → Valid form done (module_for n) ws → Holds (after_module form done n o) (ws ++ w ∷ [])
+  module_valid n None e v = tt
+  module_valid n (Some m) e v = goes v (test_for n m) w (record { front = v.own; last = w; words = refl; naming = v.unfinished; value = e })
 
-first_named : (form : Bool) (done : List Item) (line m t : ℕ) (ws : List Word) (w : Word) → number w.0 ≡ Some t → Valid form done (test_for (First line) m) ws → Valid form done (module_for (Second line (record { «module» = m; test = t }))) (ws ++ w ∷ [])
-first_named form done line m t ws w e v =
-    let u = v.unfinished in
-    goes form done (test_for (First line) m) (module_for (Second line (record { «module» = m; test = t }))) ws w v (record {
-      key = u.naming.key;
-      module_word = u.last;
-      test_word = w;
-      words = two_words v.own u.front (u.naming.key ∷ []) u.last w u.words u.naming.words;
-      keyword = u.naming.keyword;
-      here = u.naming.here;
-      names = (u.value, e);
-    })
+  -- the second word of a test
+  test_valid : (n : Naming) (m : ℕ) (o : Option ℕ) → number w.0 ≡ o → Valid form done (test_for n m) ws → Holds (after_test form done n m o) (ws ++ w ∷ [])
+  test_valid n m None e v = tt
+  test_valid (First line) m (Some t) e v =
+      let u = v.unfinished in
+      goes v (module_for (Second line (record { «module» = m; test = t }))) w (record {
+        key = u.naming.key;
+        module_word = u.last;
+        test_word = w;
+        words = two_words v.own u.front (u.naming.key ∷ []) u.last w u.words u.naming.words;
+        keyword = u.naming.keyword;
+        here = u.naming.here;
+        names = (u.value, e);
+      })
+  test_valid (Second line a) m (Some t) e v =
+      let u = v.unfinished in
+      adds v (before_item line a (record { «module» = m; test = t })) w (record {
+        first = u.naming.key;
+        module_a = u.naming.module_word;
+        test_a = u.naming.test_word;
+        module_b = u.last;
+        test_b = w;
+        words = two_words v.own u.front (u.naming.key ∷ u.naming.module_word ∷ u.naming.test_word ∷ []) u.last w u.words u.naming.words;
+        keyword = u.naming.keyword;
+        here = u.naming.here;
+        names_a = u.naming.names;
+        names_b = (u.value, e);
+      })
+  test_valid (Profiled line) m (Some t) e v = by (has_profile id done) refl
+    where
+      id : TestId
+      id = record { «module» = m; test = t }
 
-second_named : (form : Bool) (done : List Item) (line m t : ℕ) (a : TestId) (ws : List Word) (w : Word) → number w.0 ≡ Some t → Valid form done (test_for (Second line a) m) ws → Valid form (before_item line a (record { «module» = m; test = t }) ∷ done) between (ws ++ w ∷ [])
-second_named form done line m t a ws w e v =
-    let u = v.unfinished in
-    adds form done (test_for (Second line a) m) (before_item line a (record { «module» = m; test = t })) ws w v (record {
-      first = u.naming.key;
-      module_a = u.naming.module_word;
-      test_a = u.naming.test_word;
-      module_b = u.last;
-      test_b = w;
-      words = two_words v.own u.front (u.naming.key ∷ u.naming.module_word ∷ u.naming.test_word ∷ []) u.last w u.words u.naming.words;
-      keyword = u.naming.keyword;
-      here = u.naming.here;
-      names_a = u.naming.names;
-      names_b = (u.value, e);
-    })
-
-profile_named : (form : Bool) (done : List Item) (line m t : ℕ) (ws : List Word) (w : Word) → number w.0 ≡ Some t → has_profile (record { «module» = m; test = t }) done ≡ false → Valid form done (test_for (Profiled line) m) ws → Valid form done (steps_for line (record { «module» = m; test = t }) []) (ws ++ w ∷ [])
-profile_named form done line m t ws w e once v =
-    let u = v.unfinished in
-    goes form done (test_for (Profiled line) m) (steps_for line (record { «module» = m; test = t }) []) ws w v (record {
-      key = u.naming.key;
-      module_word = u.last;
-      test_word = w;
-      pairs = [];
-      words = two_words v.own u.front (u.naming.key ∷ []) u.last w u.words u.naming.words;
-      keyword = u.naming.keyword;
-      here = u.naming.here;
-      has_form = u.naming.has_form;
-      names = (u.value, e);
-      once = once;
-      are = refl;
-      so_far = tt;
-    })
-
-named_valid : (form : Bool) (done : List Item) (n : Naming) (m t : ℕ) (ws : List Word) (w : Word) → number w.0 ≡ Some t → Valid form done (test_for n m) ws → Holds (named form done n (record { «module» = m; test = t })) (ws ++ w ∷ [])
-named_valid form done (First line) m t ws w e v = first_named form done line m t ws w e v
-named_valid form done (Second line a) m t ws w e v = second_named form done line m t a ws w e v
-named_valid form done (Profiled line) m t ws w e v = by (has_profile (record { «module» = m; test = t }) done) refl
-  where
-    by : (b : Bool) → has_profile (record { «module» = m; test = t }) done ≡ b → Holds (at_if (not b) (at form done (steps_for line (record { «module» = m; test = t }) []))) (ws ++ w ∷ [])
-    by true is = tt
-    by false is = profile_named form done line m t ws w e is v
-
-test_valid : (form : Bool) (done : List Item) (n : Naming) (m : ℕ) (ws : List Word) (w : Word) (o : Option ℕ) → number w.0 ≡ o → Valid form done (test_for n m) ws → Holds (after_test form done n m o) (ws ++ w ∷ [])
-test_valid form done n m ws w None e v = tt
-test_valid form done n m ws w (Some t) e v = named_valid form done n m t ws w e v
+      by : (b : Bool) → has_profile id done ≡ b → Holds (at_if (not b) (at form done (steps_for line id []))) (ws ++ w ∷ [])
+      by true is = tt
+      by false is =
+          let u = v.unfinished in
+          goes v (steps_for line id []) w (record {
+            key = u.naming.key;
+            module_word = u.last;
+            test_word = w;
+            pairs = [];
+            words = two_words v.own u.front (u.naming.key ∷ []) u.last w u.words u.naming.words;
+            keyword = u.naming.keyword;
+            here = u.naming.here;
+            has_form = u.naming.has_form;
+            names = (u.value, e);
+            once = is;
+            are = refl;
+            so_far = tt;
+          })
 
 -- ---- steps of a profile
 
-profile_ended : (form : Bool) (done : List Item) (line : ℕ) (id : TestId) (s : ℕ × ℕ) (steps : List (ℕ × ℕ)) (ws : List Word) → Valid form done (steps_for line id (s ∷ steps)) ws → Valid form (profile_item line id (s ∷ steps) ∷ done) between ws
-profile_ended form done line id s steps ws v =
-    let u = v.unfinished in
-    ends form done (steps_for line id (s ∷ steps)) (profile_item line id (s ∷ steps)) ws v (record {
-      first = u.key;
-      module_word = u.module_word;
-      test_word = u.test_word;
-      pairs = u.pairs;
-      words = u.words;
-      keyword = u.keyword;
-      here = u.here;
-      has_form = u.has_form;
-      names = u.names;
-      once = u.once;
-      are = u.are;
-      steps_are = u.so_far;
-    })
-
-end_valid : (form : Bool) (done : List Item) (line : ℕ) (id : TestId) (steps : List (ℕ × ℕ)) (ws : List Word) (w : Word) → Valid form done (steps_for line id steps) ws → Holds (end_profile form done line id steps w) (ws ++ w ∷ [])
-end_valid form done line id [] ws w v = tt
-end_valid form done line id (s ∷ steps) ws w v =
-    begin_valid form (profile_item line id (s ∷ steps) ∷ done) ws w (key_of w.0) refl (profile_ended form done line id s steps ws v)
-
-step_valid_steps : (form : Bool) (done : List Item) (line : ℕ) (id : TestId) (steps : List (ℕ × ℕ)) (ws : List Word) (w : Word) (o : Option ℕ) → number w.0 ≡ o → Valid form done (steps_for line id steps) ws → Holds (after_step form done line id steps w o) (ws ++ w ∷ [])
-step_valid_steps form done line id steps ws w None e v = end_valid form done line id steps ws w v
-step_valid_steps form done line id steps ws w (Some n) e v = by (may_follow steps n) refl
-  where
-    by : (b : Bool) → may_follow steps n ≡ b → Holds (at_if b (at form done (power_for line id steps n))) (ws ++ w ∷ [])
-    by false is = tt
-    by true is = goes form done (steps_for line id steps) (power_for line id steps n) ws w v (record { front = v.own; last = w; words = refl; read = v.unfinished; value = e; may = is })
+module _ {form : Bool} {done : List Item} {line : ℕ} {id : TestId} {s : ℕ × ℕ} {steps : List (ℕ × ℕ)} {ws : List Word} (v : Valid form done (steps_for line id (s ∷ steps)) ws) where
+  profile_ended : Valid form (profile_item line id (s ∷ steps) ∷ done) between ws
+  profile_ended =
+      let u = v.unfinished in
+      given v (profile_item line id (s ∷ steps)) ws v.own v.words (record {
+        first = u.key;
+        module_word = u.module_word;
+        test_word = u.test_word;
+        pairs = u.pairs;
+        words = u.words;
+        keyword = u.keyword;
+        here = u.here;
+        has_form = u.has_form;
+        names = u.names;
+        once = u.once;
+        are = u.are;
+        steps_are = u.so_far;
+      })
 
 -- one more step
 pairs_more : (ws : List Word) (steps : List (ℕ × ℕ)) (x y : Word) (from power : ℕ) → ArePairs ws steps → number x.0 ≡ Some from → number y.0 ≡ Some power → ArePairs (ws ++ x ∷ y ∷ []) (steps ++ (from, power) ∷ [])
@@ -348,7 +312,8 @@ grow_more bound s (t ∷ steps) from power g past = (g.0, grow_more (s.0 + 1) t 
 so_far_more : (steps : List (ℕ × ℕ)) (from power : ℕ) → SoFar steps → may_follow steps from ≡ true → nat_le power POWER_MOST ≡ true → SoFar (steps ++ (from, power) ∷ [])
 so_far_more [] from power so may small =
     let zero_is = eqb-true from 0 may in
-    record { begins = (power, [], ap (λ n. (n, power) ∷ []) zero_is); few = omega arith; grows = (omega arith, tt); small = All-push (λ (s : ℕ × ℕ). s.1 ≤ POWER_MOST) [] (from, power) (All-nil (λ (s : ℕ × ℕ). s.1 ≤ POWER_MOST)) (le_from_true power POWER_MOST small) }
+    let last : power ≤ POWER_MOST = le_from_true power POWER_MOST small in
+    record { begins = (power, [], ap (λ n. (n, power) ∷ []) zero_is); few = omega arith; grows = (omega arith, tt); small = All-push (λ (s : ℕ × ℕ). s.1 ≤ POWER_MOST) [] (from, power) (All-nil (λ (s : ℕ × ℕ). s.1 ≤ POWER_MOST)) last }
 so_far_more (s ∷ steps) from power so may small =
     let parts = and_parts (nat_lt (last_from s.0 steps) from) (nat_lt (length (s ∷ steps)) STEPS_MOST) may in
     let few : length (s ∷ steps) < STEPS_MOST = less_from_true (length (s ∷ steps)) STEPS_MOST parts.1 in
@@ -359,16 +324,28 @@ so_far_more (s ∷ steps) from power so may small =
       small = All-push (λ (s : ℕ × ℕ). s.1 ≤ POWER_MOST) (s ∷ steps) (from, power) so.small (le_from_true power POWER_MOST small);
     }
 
-power_valid : (form : Bool) (done : List Item) (line : ℕ) (id : TestId) (steps : List (ℕ × ℕ)) (from : ℕ) (ws : List Word) (w : Word) (o : Option ℕ) → number w.0 ≡ o → Valid form done (power_for line id steps from) ws → Holds (after_power form done line id steps from o) (ws ++ w ∷ [])
-power_valid form done line id steps from ws w None e v = tt
-power_valid form done line id steps from ws w (Some p) e v = by (nat_le p POWER_MOST) refl
-  where
-    by : (b : Bool) → nat_le p POWER_MOST ≡ b → Holds (at_if b (at form done (steps_for line id (steps ++ (from, p) ∷ [])))) (ws ++ w ∷ [])
-    by false is = tt
-    by true is =
+module _ {form : Bool} {done : List Item} {line : ℕ} {id : TestId} (steps : List (ℕ × ℕ)) {ws : List Word} (w : Word) where
+  end_valid : Valid form done (steps_for line id steps) ws → Holds (end_profile form done line id steps w) (ws ++ w ∷ [])
+  end_valid v = by steps v
+    where
+      by : (steps : List (ℕ × ℕ)) → Valid form done (steps_for line id steps) ws → Holds (end_profile form done line id steps w) (ws ++ w ∷ [])
+      by [] v = tt
+      by (s ∷ steps) v = begin_valid w (key_of w.0) refl (profile_ended v)
+
+  step_valid_steps : (o : Option ℕ) → number w.0 ≡ o → Valid form done (steps_for line id steps) ws → Holds (after_step form done line id steps w o) (ws ++ w ∷ [])
+  step_valid_steps None e v = end_valid v
+  step_valid_steps (Some n) e v = elim (cases_Bool (may_follow steps n)) [
+    | inl is ↦ rw is (goes v (power_for line id steps n) w (record { front = v.own; last = w; words = refl; read = v.unfinished; value = e; may = is }))
+    | inr is ↦ rw is tt
+  ]
+
+  power_valid : (from : ℕ) (o : Option ℕ) → number w.0 ≡ o → Valid form done (power_for line id steps from) ws → Holds (after_power form done line id steps from o) (ws ++ w ∷ [])
+  power_valid from None e v = tt
+  power_valid from (Some p) e v = elim (cases_Bool (nat_le p POWER_MOST)) [
+    | inl is ↦
         let u = v.unfinished in
         let r = u.read in
-        goes form done (power_for line id steps from) (steps_for line id (steps ++ (from, p) ∷ [])) ws w v (record {
+        rw is (goes v (steps_for line id (steps ++ (from, p) ∷ [])) w (record {
           key = r.key;
           module_word = r.module_word;
           test_word = r.test_word;
@@ -381,17 +358,19 @@ power_valid form done line id steps from ws w (Some p) e v = by (nat_le p POWER_
           once = r.once;
           are = pairs_more r.pairs steps u.last w from p r.are u.value e;
           so_far = so_far_more steps from p r.so_far u.may is;
-        })
+        }))
+    | inr is ↦ rw is tt
+  ]
 
 step_valid : (form : Bool) (done : List Item) (part : Part) (ws : List Word) (w : Word) → StateIs form done part ws → Holds (step_at form done part w) (ws ++ w ∷ [])
-step_valid form done title ws w v = title_valid form done ws w (is_title w.0) refl v
-step_valid form done version ws w v = version_valid done ws w (number w.0) refl v
-step_valid form done between ws w v = begin_valid form done ws w (key_of w.0) refl v
-step_valid form done (wants a) ws w v = amount_valid form done a ws w (number w.0) refl v
-step_valid form done (module_for n) ws w v = module_valid form done n ws w (number w.0) refl v
-step_valid form done (test_for n m) ws w v = test_valid form done n m ws w (number w.0) refl v
-step_valid form done (steps_for line id steps) ws w v = step_valid_steps form done line id steps ws w (number w.0) refl v
-step_valid form done (power_for line id steps from) ws w v = power_valid form done line id steps from ws w (number w.0) refl v
+step_valid form done title ws w v = title_valid form w (is_title w.0) refl v
+step_valid form done version ws w v = version_valid w (number w.0) refl v
+step_valid form done between ws w v = begin_valid w (key_of w.0) refl v
+step_valid form done (wants a) ws w v = amount_valid w a (number w.0) refl v
+step_valid form done (module_for n) ws w v = module_valid w n (number w.0) refl v
+step_valid form done (test_for n m) ws w v = test_valid w n m (number w.0) refl v
+step_valid form done (steps_for line id steps) ws w v = step_valid_steps steps w (number w.0) refl v
+step_valid form done (power_for line id steps from) ws w v = power_valid steps w from (number w.0) refl v
 
 next_valid : (o : Option State) (ws : List Word) (w : Word) → Holds o ws → Holds (step_from o w) (ws ++ w ∷ [])
 next_valid None ws w h = tt
@@ -408,43 +387,23 @@ read_valid ws = run_valid (Some start) [] ws (record { words = refl; none = refl
 
 -- ---- the end of the words
 
-none_at : {X : Type 0} {A : Type 0} (x : X) → None ≡ Some x → A
-none_at x e = cc
+whole : {form : Bool} {done items : List Item} {ws : List Word} → Valid form done between ws → done ≡ items → has_amount Wires items ≡ true → IsText form items ws
+whole {form} v same wires = record {
+  title = v.first;
+  version = v.second;
+  rest = v.front ++ v.own;
+  words = v.words;
+  title_is = v.title_is;
+  version_is = v.version_is;
+  are = subst (λ l. AreItems form l (v.front ++ v.own)) same (rw v.unfinished (rw append-nil v.before));
+  wires = wires;
+}
 
 -- the words of a state that may end are a text, where wires are given
 pub text_of : (form : Bool) (done : List Item) (part : Part) (items : List Item) (ws : List Word) → StateIs form done part ws → ended_at done part ≡ Some items → has_amount Wires items ≡ true → IsText form items ws
-text_of form done title items ws v e wires = none_at items e
-text_of form done version items ws v e wires = none_at items e
-text_of form done (wants a) items ws v e wires = none_at items e
-text_of form done (module_for n) items ws v e wires = none_at items e
-text_of form done (test_for n m) items ws v e wires = none_at items e
-text_of form done (power_for line id steps from) items ws v e wires = none_at items e
-text_of form done (steps_for line id []) items ws v e wires = none_at items e
-text_of form done between items ws v e wires =
-    let same = same_Some done items e in
-    record {
-      title = v.first;
-      version = v.second;
-      rest = v.front ++ v.own;
-      words = v.words;
-      title_is = v.title_is;
-      version_is = v.version_is;
-      are = subst (λ l. AreItems form l (v.front ++ v.own)) same (rw v.unfinished (rw append-nil v.before));
-      wires = wires;
-    }
-text_of form done (steps_for line id (s ∷ steps)) items ws v e wires =
-    let same = same_Some (profile_item line id (s ∷ steps) ∷ done) items e in
-    let u = profile_ended form done line id s steps ws v in
-    record {
-      title = u.first;
-      version = u.second;
-      rest = u.front ++ u.own;
-      words = u.words;
-      title_is = u.title_is;
-      version_is = u.version_is;
-      are = subst (λ l. AreItems form l (u.front ++ u.own)) same (rw u.unfinished (rw append-nil u.before));
-      wires = wires;
-    }
+text_of form done between items ws v e wires = whole v (same_Some done items e) wires
+text_of form done (steps_for line id (s ∷ steps)) items ws v e wires = whole (profile_ended v) (same_Some (profile_item line id (s ∷ steps) ∷ done) items e) wires
+text_of form done part items ws v e wires = absurd cc
 
 -- each item has a word
 comes_long : (form : Bool) (earlier : List Item) (x : Item) (ws : List Word) → Comes form earlier x ws → 1 ≤ length ws
@@ -457,16 +416,11 @@ items_long form [] ws is = omega arith
 items_long form (x ∷ earlier) ws is =
     omega (arith, comes_long form earlier x is.1 is.4, items_long form earlier is.0 is.3, ap length is.2, length-append is.0 is.1)
 
-valid_long : (form : Bool) (done : List Item) (part : Part) (ws : List Word) → Valid form done part ws → length done ≤ length ws
-valid_long form done part ws v = omega (arith, items_long form done v.front v.before, ap length v.words, length-append v.front v.own)
+valid_long : {form : Bool} {done : List Item} {part : Part} {ws : List Word} → Valid form done part ws → length done ≤ length ws
+valid_long {form} {done} v = omega (arith, items_long form done v.front v.before, ap length v.words, length-append v.front v.own)
 
 -- no more items than words
 pub no_more_items : (form : Bool) (done : List Item) (part : Part) (ws : List Word) → StateIs form done part ws → length done ≤ length ws
 no_more_items form done title ws v = omega (arith, ap length v.none)
 no_more_items form done version ws v = omega (arith, ap length v.none)
-no_more_items form done between ws v = valid_long form done between ws v
-no_more_items form done (wants a) ws v = valid_long form done (wants a) ws v
-no_more_items form done (module_for n) ws v = valid_long form done (module_for n) ws v
-no_more_items form done (test_for n m) ws v = valid_long form done (test_for n m) ws v
-no_more_items form done (steps_for line id steps) ws v = valid_long form done (steps_for line id steps) ws v
-no_more_items form done (power_for line id steps from) ws v = valid_long form done (power_for line id steps from) ws v
+no_more_items form done part ws v = valid_long v

@@ -1,12 +1,10 @@
 -- The limits that a text says keep their ranges, and are sound for a chip that refuses nothing of them.
-use Rattle.std.proofs.Common.{◌≡◌, ◌⊎◌, inl, inr, ℕ, zero, suc, ◌≤◌, List, [], ◌∷◌, ◌++◌, length, Bool, true, false, ◌&&◌, ◌||◌, not, map, reverse, Option, None, Some, slice_get, nat_lt, cond, refl, sym, ◌∙◌, ap, subst, arith}
-use Rattle.std.specs.Prelude.{nat_le, IfSome, find}
-use Rattle.std.specs.List.{All}
+use Rattle.std.proofs.Common.{◌≡◌, ◌⊎◌, inl, inr, ℕ, zero, suc, ◌≤◌, List, [], ◌∷◌, ◌++◌, length, Bool, true, false, ◌&&◌, ◌||◌, not, map, reverse, Option, None, Some, slice_get, nat_lt, cond, refl, sym, ◌∙◌, ap, subst, arith, nat_le, IfSome, find, All}
 use Rattle.std.proofs.lemmas.Grind.{common_steps}
 use Rattle.std.proofs.lemmas.Bool.Decides.{nat_tests}
 use Rattle.std.proofs.lemmas.List.{reverse-append}
 use Rattle.std.proofs.lemmas.List.Elements.{All-nil, All-push, All-cons, All-head, All-tail}
-use Rattle.std.proofs.lemmas.Bool.{and_parts, or_right}
+use Rattle.std.proofs.lemmas.Bool.{and_parts, or_right, cases_Bool}
 use Rattle.std.proofs.lemmas.Option.{same_Some}
 use Rattle.soc_model.specs.declared.TestId.{TestId}
 use Rattle.soc_model.specs.declared.TheConstants.{NUMBER_WORD_MOST, POWER_MOST}
@@ -23,35 +21,27 @@ use Rattle.common_lemmas.proofs.Tests.{false_true, le_from_true}
 
 -- ---- ranges
 
-pub record HasWires (limits : LimitsValue) : Type 0 where
-  pub some : 1 ≤ limits.wires
-  pub few : limits.wires ≤ WIRES_MOST
+pub record HasWires (wires : ℕ) : Type 0 where
+  pub some : 1 ≤ wires
+  pub few : wires ≤ WIRES_MOST
 
-pub wires_in_range : (form : Bool) (items : List Item) (ws : List Word) → AreItems form items ws → has_amount Wires items ≡ true → HasWires (limits_of items)
-wires_in_range form [] ws is has = cc
-wires_in_range form (amount_item Wires n ∷ earlier) ws is has =
-    let parts = and_parts (nat_le 1 n) (nat_le n WIRES_MOST) is.4.range in
-    record { some = le_from_true 1 n parts.0; few = le_from_true n WIRES_MOST parts.1 }
-wires_in_range form (amount_item Power n ∷ earlier) ws is has = let e = wires_in_range form earlier is.0 is.3 has in record { some = e.some; few = e.few }
-wires_in_range form (amount_item Budget n ∷ earlier) ws is has = let e = wires_in_range form earlier is.0 is.3 has in record { some = e.some; few = e.few }
-wires_in_range form (before_item line a b ∷ earlier) ws is has = let e = wires_in_range form earlier is.0 is.3 has in record { some = e.some; few = e.few }
-wires_in_range form (profile_item line id steps ∷ earlier) ws is has = let e = wires_in_range form earlier is.0 is.3 has in record { some = e.some; few = e.few }
+module _ (form : Bool) where
+  pub wires_in_range : (items : List Item) (ws : List Word) → AreItems form items ws → has_amount Wires items ≡ true → HasWires (limits_of items).wires
+  wires_in_range [] ws is has = cc
+  wires_in_range (amount_item Wires n ∷ earlier) ws is has =
+      let parts = and_parts (nat_le 1 n) (nat_le n WIRES_MOST) is.4.range in
+      record { some = le_from_true 1 n parts.0; few = le_from_true n WIRES_MOST parts.1 }
+  wires_in_range (x ∷ earlier) ws is has = wires_in_range earlier is.0 is.3 has
 
-pub power_in_range : (form : Bool) (items : List Item) (ws : List Word) → AreItems form items ws → IfSome (limits_of items).power (λ most. most ≤ POWER_MOST)
-power_in_range form [] ws is = tt
-power_in_range form (amount_item Power n ∷ earlier) ws is = le_from_true n POWER_MOST is.4.range
-power_in_range form (amount_item Wires n ∷ earlier) ws is = power_in_range form earlier is.0 is.3
-power_in_range form (amount_item Budget n ∷ earlier) ws is = power_in_range form earlier is.0 is.3
-power_in_range form (before_item line a b ∷ earlier) ws is = power_in_range form earlier is.0 is.3
-power_in_range form (profile_item line id steps ∷ earlier) ws is = power_in_range form earlier is.0 is.3
+  pub power_in_range : (items : List Item) (ws : List Word) → AreItems form items ws → IfSome (limits_of items).power (λ most. most ≤ POWER_MOST)
+  power_in_range [] ws is = tt
+  power_in_range (amount_item Power n ∷ earlier) ws is = le_from_true n POWER_MOST is.4.range
+  power_in_range (x ∷ earlier) ws is = power_in_range earlier is.0 is.3
 
-pub budget_in_range : (form : Bool) (items : List Item) (ws : List Word) → AreItems form items ws → (limits_of items).budget ≤ BUDGET_MOST
-budget_in_range form [] ws is = omega arith
-budget_in_range form (amount_item Budget n ∷ earlier) ws is = le_from_true n BUDGET_MOST is.4.range
-budget_in_range form (amount_item Wires n ∷ earlier) ws is = budget_in_range form earlier is.0 is.3
-budget_in_range form (amount_item Power n ∷ earlier) ws is = budget_in_range form earlier is.0 is.3
-budget_in_range form (before_item line a b ∷ earlier) ws is = budget_in_range form earlier is.0 is.3
-budget_in_range form (profile_item line id steps ∷ earlier) ws is = budget_in_range form earlier is.0 is.3
+  pub budget_in_range : (items : List Item) (ws : List Word) → AreItems form items ws → (limits_of items).budget ≤ BUDGET_MOST
+  budget_in_range [] ws is = omega arith
+  budget_in_range (amount_item Budget n ∷ earlier) ws is = le_from_true n BUDGET_MOST is.4.range
+  budget_in_range (x ∷ earlier) ws is = budget_in_range earlier is.0 is.3
 
 -- ---- known tests
 
@@ -68,13 +58,14 @@ both_none None None e = (refl, refl)
 both_none None (Some n) e = cc
 both_none (Some n) b e = cc
 
--- the latest item comes after the earlier ones
-pub unknown_more : (soc : SocValue) (x : Item) (earlier : List Item) → first_unknown soc (x ∷ earlier) ≡ or_first (first_unknown soc earlier) (or_first (unknown_line soc x) None)
-unknown_more soc x earlier = ap (first_line soc) (reverse-append (x ∷ []) earlier) ∙ first_line-append soc (reverse earlier) (x ∷ [])
+module _ (soc : SocValue) (x : Item) (earlier : List Item) where
+  -- the latest item comes after the earlier ones
+  pub unknown_more : first_unknown soc (x ∷ earlier) ≡ or_first (first_unknown soc earlier) (or_first (unknown_line soc x) None)
+  unknown_more = ap (first_line soc) (reverse-append (x ∷ []) earlier) ∙ first_line-append soc (reverse earlier) (x ∷ [])
 
--- nothing is unknown in the latest item and in the earlier ones
-none_unknown : (soc : SocValue) (x : Item) (earlier : List Item) → first_unknown soc (x ∷ earlier) ≡ None → (first_unknown soc earlier ≡ None) × (unknown_line soc x ≡ None)
-none_unknown soc x earlier e = both_none (first_unknown soc earlier) (unknown_line soc x) (sym (unknown_more soc x earlier) ∙ e)
+  -- nothing is unknown in the latest item and in the earlier ones
+  none_unknown : first_unknown soc (x ∷ earlier) ≡ None → (first_unknown soc earlier ≡ None) × (unknown_line soc x ≡ None)
+  none_unknown e = both_none (first_unknown soc earlier) (unknown_line soc x) (sym unknown_more ∙ e)
 
 none_if : (b : Bool) (line : ℕ) → line_if (not b) line ≡ None → b ≡ true
 none_if true line e = refl
@@ -85,14 +76,12 @@ Known soc p = HasTest soc p.0 × HasTest soc p.1
 
 pub before_known : (soc : SocValue) (items : List Item) → first_unknown soc items ≡ None → All (λ (p : TestId × TestId). HasTest soc p.0 × HasTest soc p.1) (limits_of items).before
 before_known soc [] e = All-nil _
-before_known soc (amount_item Wires n ∷ earlier) e = before_known soc earlier (none_unknown soc (amount_item Wires n) earlier e).0
-before_known soc (amount_item Power n ∷ earlier) e = before_known soc earlier (none_unknown soc (amount_item Power n) earlier e).0
-before_known soc (amount_item Budget n ∷ earlier) e = before_known soc earlier (none_unknown soc (amount_item Budget n) earlier e).0
-before_known soc (profile_item line id steps ∷ earlier) e = before_known soc earlier (none_unknown soc (profile_item line id steps) earlier e).0
 before_known soc (before_item line a b ∷ earlier) e =
     let parts = none_unknown soc (before_item line a b) earlier e in
     let known = and_parts (is_known soc a) (is_known soc b) (none_if (is_known soc a && is_known soc b) line parts.1) in
     All-push (λ (p : TestId × TestId). HasTest soc p.0 × HasTest soc p.1) (limits_of earlier).before (a, b) (before_known soc earlier parts.0) known
+before_known soc (amount_item Wires n ∷ earlier) e = before_known soc earlier (none_unknown soc (amount_item Wires n) earlier e).0
+before_known soc (x ∷ earlier) e = before_known soc earlier (none_unknown soc x earlier e).0
 
 -- ---- profiles
 
@@ -106,37 +95,36 @@ pairs_small ws (s ∷ steps) are all =
     All-cons (λ (s : ℕ × ℕ). (s.0 ≤ NUMBER_WORD_MOST) × (s.1 ≤ POWER_MOST)) s steps (number_small are.0.0 s.0 are.4, All-head (λ (s : ℕ × ℕ). s.1 ≤ POWER_MOST) s steps all)
     (pairs_small are.2 steps are.6 (All-tail (λ (s : ℕ × ℕ). s.1 ≤ POWER_MOST) s steps all))
 
-profile_sound : (soc : SocValue) (form : Bool) (earlier : List Item) (line : ℕ) (id : TestId) (steps : List (ℕ × ℕ)) (ws : List Word) → ProfileComes form earlier line id steps ws → HasTest soc id → IsSoundProfile soc (record { test = id; steps = steps })
-profile_sound soc form earlier line id steps ws c known = record {
-  test = known;
-  some_step = omega (arith, ap length c.steps_are.begins.2);
-  few_steps = c.steps_are.few;
-  begins = (c.steps_are.begins.0, ap (λ l. slice_get l 0) c.steps_are.begins.2);
-  grows = c.steps_are.grows;
-  small = pairs_small c.pairs steps c.are c.steps_are.small;
-}
+module _ (soc : SocValue) (form : Bool) where
+  profile_sound : (earlier : List Item) (line : ℕ) (id : TestId) (steps : List (ℕ × ℕ)) (ws : List Word) → ProfileComes form earlier line id steps ws
+      → HasTest soc id → IsSoundProfile soc (record { test = id; steps = steps })
+  profile_sound earlier line id steps ws c known = record {
+    test = known;
+    some_step = omega (arith, ap length c.steps_are.begins.2);
+    few_steps = c.steps_are.few;
+    begins = (c.steps_are.begins.0, ap (λ l. slice_get l 0) c.steps_are.begins.2);
+    grows = c.steps_are.grows;
+    small = pairs_small c.pairs steps c.are c.steps_are.small;
+  }
 
-pub profiles_sound : (soc : SocValue) (form : Bool) (items : List Item) (ws : List Word) → AreItems form items ws → first_unknown soc items ≡ None → All (IsSoundProfile soc) (limits_of items).profiles
-profiles_sound soc form [] ws is e = All-nil _
-profiles_sound soc form (amount_item Wires n ∷ earlier) ws is e = profiles_sound soc form earlier is.0 is.3 (none_unknown soc (amount_item Wires n) earlier e).0
-profiles_sound soc form (amount_item Power n ∷ earlier) ws is e = profiles_sound soc form earlier is.0 is.3 (none_unknown soc (amount_item Power n) earlier e).0
-profiles_sound soc form (amount_item Budget n ∷ earlier) ws is e = profiles_sound soc form earlier is.0 is.3 (none_unknown soc (amount_item Budget n) earlier e).0
-profiles_sound soc form (before_item line a b ∷ earlier) ws is e = profiles_sound soc form earlier is.0 is.3 (none_unknown soc (before_item line a b) earlier e).0
-profiles_sound soc form (profile_item line id steps ∷ earlier) ws is e =
-    let parts = none_unknown soc (profile_item line id steps) earlier e in
-    All-push (IsSoundProfile soc) (limits_of earlier).profiles (record { test = id; steps = steps }) (profiles_sound soc form earlier is.0 is.3 parts.0)
-    (profile_sound soc form earlier line id steps is.1 is.4 (none_if (is_known soc id) line parts.1))
+  pub profiles_sound : (items : List Item) (ws : List Word) → AreItems form items ws → first_unknown soc items ≡ None → All (IsSoundProfile soc) (limits_of items).profiles
+  profiles_sound [] ws is e = All-nil _
+  profiles_sound (profile_item line id steps ∷ earlier) ws is e =
+      let parts = none_unknown soc (profile_item line id steps) earlier e in
+      All-push (IsSoundProfile soc) (limits_of earlier).profiles (record { test = id; steps = steps }) (profiles_sound earlier is.0 is.3 parts.0)
+      (profile_sound earlier line id steps is.1 is.4 (none_if (is_known soc id) line parts.1))
+  profiles_sound (amount_item Wires n ∷ earlier) ws is e = profiles_sound earlier is.0 is.3 (none_unknown soc (amount_item Wires n) earlier e).0
+  profiles_sound (x ∷ earlier) ws is e = profiles_sound earlier is.0 is.3 (none_unknown soc x earlier e).0
 
 -- what stands in a list and one more element
 pub push_cases : {X : Type 0} (xs : List X) (y x : X) (p : ℕ) → slice_get (xs ++ y ∷ []) p ≡ Some x → (slice_get xs p ≡ Some x) ⊎ ((p ≡ length xs) × (y ≡ x))
 push_cases [] y x zero e = inr (refl, same_Some y x e)
 push_cases [] y x (suc p) e = cc
 push_cases (z ∷ xs) y x zero e = inl e
-push_cases (z ∷ xs) y x (suc p) e = next (push_cases xs y x p e)
-  where
-    next : (slice_get xs p ≡ Some x) ⊎ ((p ≡ length xs) × (y ≡ x)) → (slice_get (z ∷ xs) (suc p) ≡ Some x) ⊎ ((suc p ≡ length (z ∷ xs)) × (y ≡ x))
-    next (inl f) = inl f
-    next (inr f) = inr (ap suc f.0, f.1)
+push_cases (z ∷ xs) y x (suc p) e = elim (push_cases xs y x p e) [
+  | inl f ↦ inl f
+  | inr f ↦ inr (ap suc f.0, f.1)
+]
 
 same_itself : (id : TestId) → same_test id id ≡ true
 same_itself id = grind (arith, nat_tests)
@@ -144,15 +132,12 @@ same_itself id = grind (arith, nat_tests)
 -- a profile was given
 profile_given : (items : List Item) (p : ℕ) (x : ProfileValue) → slice_get (limits_of items).profiles p ≡ Some x → has_profile x.test items ≡ true
 profile_given [] p x e = cc
-profile_given (amount_item Wires n ∷ earlier) p x e = profile_given earlier p x e
-profile_given (amount_item Power n ∷ earlier) p x e = profile_given earlier p x e
-profile_given (amount_item Budget n ∷ earlier) p x e = profile_given earlier p x e
-profile_given (before_item line a b ∷ earlier) p x e = profile_given earlier p x e
-profile_given (profile_item line id steps ∷ earlier) p x e = by (push_cases (limits_of earlier).profiles (record { test = id; steps = steps }) x p e) (profile_given earlier p x)
-  where
-    by : (slice_get (limits_of earlier).profiles p ≡ Some x) ⊎ ((p ≡ length (limits_of earlier).profiles) × (record { test = id; steps = steps } ≡ x)) → (slice_get (limits_of earlier).profiles p ≡ Some x → has_profile x.test earlier ≡ true) → has_profile x.test (profile_item line id steps ∷ earlier) ≡ true
-    by (inl f) again = or_right (same_test x.test id) (has_profile x.test earlier) (again f)
-    by (inr f) again = subst (λ (y : ProfileValue). has_profile y.test (profile_item line id steps ∷ earlier) ≡ true) f.1 (ap (λ b. b || has_profile id earlier) (same_itself id))
+profile_given (profile_item line id steps ∷ earlier) p x e = elim (push_cases (limits_of earlier).profiles (record { test = id; steps = steps }) x p e) [
+  | inl f ↦ or_right (same_test x.test id) (has_profile x.test earlier) (profile_given earlier p x f)
+  | inr f ↦ subst (λ (y : ProfileValue). has_profile y.test (profile_item line id steps ∷ earlier) ≡ true) f.1 (ap (λ b. b || has_profile id earlier) (same_itself id))
+]
+profile_given (amount_item Wires n ∷ earlier) p y e = profile_given earlier p y e
+profile_given (x ∷ earlier) p y e = profile_given earlier p y e
 
 abbrev OneProfile : List ProfileValue → Type 0
 OneProfile profiles = (p q : ℕ) (x y : ProfileValue) → slice_get profiles p ≡ Some x → slice_get profiles q ≡ Some y → x.test ≡ y.test → p ≡ q
@@ -175,42 +160,39 @@ no_profiles p q x y at there same = cc
 
 pub one_profile : (form : Bool) (items : List Item) (ws : List Word) → AreItems form items ws → (p q : ℕ) (x y : ProfileValue) → slice_get (limits_of items).profiles p ≡ Some x → slice_get (limits_of items).profiles q ≡ Some y → x.test ≡ y.test → p ≡ q
 one_profile form [] ws is = no_profiles
-one_profile form (amount_item Wires n ∷ earlier) ws is = one_profile form earlier is.0 is.3
-one_profile form (amount_item Power n ∷ earlier) ws is = one_profile form earlier is.0 is.3
-one_profile form (amount_item Budget n ∷ earlier) ws is = one_profile form earlier is.0 is.3
-one_profile form (before_item line a b ∷ earlier) ws is = one_profile form earlier is.0 is.3
 one_profile form (profile_item line id steps ∷ earlier) ws is = one_more earlier (record { test = id; steps = steps }) is.4.once (one_profile form earlier is.0 is.3)
+one_profile form (amount_item Wires n ∷ earlier) ws is = one_profile form earlier is.0 is.3
+one_profile form (x ∷ earlier) ws is = one_profile form earlier is.0 is.3
 
 -- ---- powers
 
 not_found : (most x : ℕ) (xs : List ℕ) → find (nat_lt most) (x ∷ xs) ≡ None → (x ≤ most) × (find (nat_lt most) xs ≡ None)
-not_found most x xs e = by (nat_lt most x) refl e
+not_found most x xs e = elim (cases_Bool (nat_lt most x)) [
+  | inl is ↦ let none = rw is at e in cc
+  | inr is ↦ (less_false most x is, rw is at e)
+]
   where
     less_false : (a b : ℕ) → nat_lt a b ≡ false → b ≤ a
     less_false a b e = grind (arith, nat_tests)
 
-    by : (b : Bool) → nat_lt most x ≡ b → find (nat_lt most) (x ∷ xs) ≡ None → (x ≤ most) × (find (nat_lt most) xs ≡ None)
-    by true is e = let none = rw is at e in cc
-    by false is e = (less_false most x is, rw is at e)
+module _ (most r : ℕ) where
+  step_within : (now : ℕ) (steps : List (ℕ × ℕ)) → now ≤ most → find (nat_lt most) (map (λ (s : ℕ × ℕ). s.1) steps) ≡ None → step_power r now steps ≤ most
+  step_within now [] small none = small
+  step_within now (s ∷ steps) small none =
+      let parts = not_found most s.1 (map (λ (s : ℕ × ℕ). s.1) steps) none in
+      by (nat_le s.0 r) (step_within s.1 steps parts.0 parts.1) (step_within now steps small parts.1)
+    where
+      by : (b : Bool) → step_power r s.1 steps ≤ most → step_power r now steps ≤ most → cond b (step_power r s.1 steps) (step_power r now steps) ≤ most
+      by true e f = e
+      by false e f = f
 
-step_within : (most r now : ℕ) (steps : List (ℕ × ℕ)) → now ≤ most → find (nat_lt most) (map (λ (s : ℕ × ℕ). s.1) steps) ≡ None → step_power r now steps ≤ most
-step_within most r now [] small none = small
-step_within most r now (s ∷ steps) small none =
-    let parts = not_found most s.1 (map (λ (s : ℕ × ℕ). s.1) steps) none in
-    by (nat_le s.0 r) (step_within most r s.1 steps parts.0 parts.1) (step_within most r now steps small parts.1)
-  where
-    by : (b : Bool) → step_power r s.1 steps ≤ most → step_power r now steps ≤ most → cond b (step_power r s.1 steps) (step_power r now steps) ≤ most
-    by true e f = e
-    by false e f = f
-
-power_within : (most r : ℕ) (profiles : List ProfileValue) (id : TestId) (own : ℕ) → find (nat_lt most) (powers_named profiles id own) ≡ None → of_first (λ (p : ProfileValue). same_test p.test id) (λ p. step_power r 0 p.steps) own profiles ≤ most
-power_within most r [] id own none = (not_found most own [] none).0
-power_within most r (p ∷ profiles) id own none = by (same_test p.test id) refl (power_within most r profiles id own)
-  where
-    by : (b : Bool) → same_test p.test id ≡ b → (find (nat_lt most) (powers_named profiles id own) ≡ None → of_first (λ (p : ProfileValue). same_test p.test id) (λ p. step_power r 0 p.steps) own profiles ≤ most)
-        → of_first (λ (p : ProfileValue). same_test p.test id) (λ p. step_power r 0 p.steps) own (p ∷ profiles) ≤ most
-    by true is again = rw is (step_within most r 0 p.steps (omega arith) (rw is at none))
-    by false is again = rw is (again (rw is at none))
+  power_within : (profiles : List ProfileValue) (id : TestId) (own : ℕ) → find (nat_lt most) (powers_named profiles id own) ≡ None
+      → of_first (λ (p : ProfileValue). same_test p.test id) (λ p. step_power r 0 p.steps) own profiles ≤ most
+  power_within [] id own none = (not_found most own [] none).0
+  power_within (p ∷ profiles) id own none = elim (cases_Bool (same_test p.test id)) [
+    | inl is ↦ rw is (step_within 0 p.steps (omega arith) (rw is at none))
+    | inr is ↦ rw is (power_within profiles id own (rw is at none))
+  ]
 
 pub all_within : (soc : SocValue) (limits : LimitsValue) → NonePasses soc limits → (i : ℕ) (l : LiveTest) → slice_get (live_tests soc) i ≡ Some l → (r : ℕ) → IfSome limits.power (λ most. power_of_id limits (id_of l) l.test.power r ≤ most)
 all_within soc limits none i l at r = by limits.power none

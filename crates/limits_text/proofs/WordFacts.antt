@@ -1,6 +1,5 @@
--- A keyword is no number.
-use Rattle.std.proofs.Common.{◌≡◌, ℕ, ◌<◌, ◌≤◌, List, [], ◌∷◌, length, true, ◌&&◌, not, nat_eq, codes, decimal, Option, None, Some, refl, sym, ◌∙◌, arith}
-use Rattle.std.specs.Prelude.{nat_le}
+-- Words, steps and whether some element passes a test.
+use Rattle.std.proofs.Common.{◌≡◌, ℕ, ◌<◌, ◌≤◌, List, [], ◌∷◌, length, true, ◌&&◌, not, nat_eq, codes, decimal, Option, None, Some, refl, sym, ◌∙◌, arith, suc, ◌-◌, map, reverse, Bool, false, ◌||◌, slice_get, nat_lt, ap, nat_le}
 use Rattle.std.specs.Char.{is_ascii_digit}
 use Rattle.std.specs.Str.{all_ascii_digits}
 use Rattle.std.proofs.lemmas.Bool.{and_parts}
@@ -15,7 +14,19 @@ use Rattle.limits_text.specs.declared.items.Amount.{Amount}
 use Rattle.limits_text.specs.declared.items.Amount.TheVariants.{Wires, Power, Budget}
 use Rattle.limits_text.specs.declared.items.Key.{Key}
 use Rattle.limits_text.specs.declared.items.Key.TheVariants.{One, Before}
-use Rattle.limits_text.specs.Items.{number, is_title, key_of, is_in_range}
+use Rattle.limits_text.specs.Items.{number, is_title, key_of, is_in_range, Item}
+use Rattle.std.specs.List.{list_any}
+use Rattle.plan_model.specs.declared.TheConstants.{STEPS_MOST}
+use Rattle.std.proofs.lemmas.Bool.Decides.{nat_tests}
+use Rattle.std.proofs.lemmas.Grind.{common_steps}
+use Rattle.std.proofs.lemmas.List.{reverse-append}
+use Rattle.std.proofs.lemmas.List.Folds.{list_any-append}
+use Rattle.limits_text.specs.declared.items.Item.{Item as ReadItem}
+use Rattle.limits_text.specs.Views.{item_of}
+use Rattle.limits_text.specs.Steps.{last_from, may_follow}
+use Rattle.common_lemmas.proofs.Tests.{or_false_right, or_comm}
+
+-- ---- a keyword is no number
 
 number_low : (c : ℕ) (cs : List ℕ) (n : ℕ) → number (c ∷ cs) ≡ Some n → c < 65
 unfolding number
@@ -94,3 +105,42 @@ unfolding key_of
 before_key w is =
     let other = λ (x : List ℕ). same_letters-same w (codes "Before") x is in
     rw (other (codes "Wires"), other (codes "Power"), other (codes "Budget"), other (codes "Before")) refl
+
+-- ---- whether some element passes a test, from either end; the last of some steps
+
+pub list_any-reverse : {X : Type 0} (p : X → Bool) (xs : List X) → list_any p (reverse xs) ≡ list_any p xs
+list_any-reverse p [] = refl
+list_any-reverse p (x ∷ xs) =
+    ap (list_any p) (reverse-append (x ∷ []) xs) ∙ list_any-append p (reverse xs) (x ∷ []) ∙ or_comm (list_any p (reverse xs)) (p x || false)
+    ∙ ap (λ b. b || list_any p (reverse xs)) (or_false_right (p x)) ∙ ap (λ b. p x || b) (list_any-reverse p xs)
+
+pub some_done : (p : Item → Bool) (list found : List ReadItem) (b : Bool) → found ≡ list → b ≡ list_any p (map item_of found) → b ≡ list_any p (reverse (map item_of list))
+some_done p list found b same is = is ∙ ap (λ l. list_any p (map item_of l)) same ∙ sym (list_any-reverse p (map item_of list))
+
+-- the last of some steps
+pub last-at : (s x : ℕ × ℕ) (steps : List (ℕ × ℕ)) → slice_get (s ∷ steps) (length steps) ≡ Some x → last_from s.0 steps ≡ x.0
+last-at s x [] e = grind (arith, common_steps)
+last-at s x (t ∷ steps) e = last-at t x steps (grind (arith, common_steps))
+
+-- whether a step may follow steps, by the last of them
+pub last_follows : (steps : List (ℕ × ℕ)) (x : ℕ × ℕ) (from : ℕ) → Some x ≡ slice_get steps (length steps - 1) → may_follow steps from ≡ (nat_lt x.0 from && nat_lt (length steps) STEPS_MOST)
+last_follows [] x from e = cc
+last_follows (s ∷ steps) x from e =
+    let at : slice_get (s ∷ steps) (length steps) ≡ Some x = (rw at_end at (sym e)) in
+    ap (λ n. nat_lt n from && nat_lt (length (s ∷ steps)) STEPS_MOST) (last-at s x steps at)
+  where
+    at_end : suc (length steps) - 1 ≡ length steps
+    at_end = omega arith
+
+module _ (steps : List (ℕ × ℕ)) (x : ℕ × ℕ) (from : ℕ) (e : Some x ≡ slice_get steps (length steps - 1)) where
+  pub follows_true : x.0 < from → nat_lt (length steps) STEPS_MOST ≡ may_follow steps from
+  follows_true less = sym (last_follows steps x from e ∙ ap (λ b. b && nat_lt (length steps) STEPS_MOST) (is_less x.0 from less))
+    where
+      is_less : (a b : ℕ) → a < b → nat_lt a b ≡ true
+      is_less a b less = grind (arith, nat_tests)
+
+  pub follows_false : from ≤ x.0 → nat_lt x.0 from ≡ may_follow steps from
+  follows_false most = is_most x.0 from most ∙ sym (last_follows steps x from e ∙ ap (λ b. b && nat_lt (length steps) STEPS_MOST) (is_most x.0 from most))
+    where
+      is_most : (a b : ℕ) → b ≤ a → nat_lt a b ≡ false
+      is_most a b most = grind (arith, nat_tests)

@@ -104,7 +104,7 @@ pub fn first_loop_of(
     found
 }
 
-/// The same, where these are the live tests of the chip.
+/// The first loop of the precedences that items say, where these are the live tests of the chip.
 fn loop_named(
     alloc: Global,
     soc: &Soc,

@@ -75,7 +75,7 @@ impl<'a> ChipTests<'a> {
         }
     }
 
-    /// The same by a search, for a test's number that its module's row doesn't reach.
+    /// The place by a search, for a test's number that its module's row doesn't reach.
     fn place_beyond(&self, id: TestId) -> Option<Option<usize>>
         ensures { result ≡ named self.now id }
     {

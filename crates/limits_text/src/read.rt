@@ -34,8 +34,8 @@ pub fn read_limits(alloc: Global, bytes: &[u8], soc: &Soc) -> Result<Limits, Lim
     read_limits_with(alloc, bytes, soc, &mut live)
 }
 
-/// The same, with the live tests of the chip by name where they are at hand. Where they aren't and the text names a test,
-/// they are noted for those that come after.
+/// The limits that a text says, with the live tests of the chip by name where they are at hand. Where they aren't and the text names
+/// a test, they are noted for those that come after.
 pub fn read_limits_with(
     alloc: Global,
     bytes: &[u8],

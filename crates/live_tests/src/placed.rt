@@ -35,12 +35,12 @@ pub struct PlacedTest {
 
 /// The live tests of a chip as a plan places them, in the order of the chip, each found by its name.
 #[derive(Drop)]
-pub struct PlacedTests {
-    names: LiveTests,
+pub struct PlacedTests<'a> {
+    names: &'a LiveTests,
     tests: Vec<PlacedTest>,
 }
 
-impl Model for PlacedTests {
+impl<'a> Model for PlacedTests<'a> {
     ghost use Rattle.std.specs.Prelude.{◌≡◌, List, map};
     ghost use Rattle.live_tests.specs.declared.placed.PlacedTest.{PlacedTest};
 
@@ -48,20 +48,20 @@ impl Model for PlacedTests {
 
     ghost view = { λ t. t.tests.items };
 
-    ghost invariant = { λ t. t.names ≡ map (λ (p : PlacedTest). p.id) t.tests.items };
+    ghost invariant = { λ t. t.names.now ≡ map (λ (p : PlacedTest). p.id) t.tests.items };
 }
 
-impl PlacedTests {
+impl<'a> PlacedTests<'a> {
     /// The live tests of a chip as a good plan places them, where they are at hand by name. `NoMemory` where there is none.
     pub fn with_names(
         alloc: Global,
         soc: &Soc,
         plan: &Plan,
-        names: LiveTests,
-    ) -> Result<PlacedTests, NoMemory>
+        names: &'a LiveTests,
+    ) -> Result<PlacedTests<'a>, NoMemory>
         requires sound { IsSoundChip (soc_value soc.now) }
         requires good { IsGoodAlone (soc_value soc.now) (plan_value plan.now) }
-        requires names { names ≡ live_ids (soc_value soc.now) }
+        requires names { names.now ≡ live_ids (soc_value soc.now) }
         ensures { IfOk result (λ tests. tests ≡ placed_tests (soc_value soc.now) (plan_value plan.now)) }
     {
         let tests = tests_placed(alloc, soc, plan)?;

@@ -33,7 +33,7 @@ impl Resolved {
         Resolved::with_tests(alloc, soc, limits, tests)
     }
 
-    /// The same, where the live tests of the chip are at hand by name. `NoMemory` where there is none.
+    /// A chip and its limits, resolved, where the live tests of the chip are at hand by name. `NoMemory` where there is none.
     pub fn with_tests(
         alloc: Global,
         soc: &Soc,

@@ -1,13 +1,12 @@
 -- The bits of a line one after another.
-use Rattle.std.proofs.Common.{◌≡◌, Bool, ℕ, zero, suc, ◌+◌, ◌-◌, ◌*◌, ◌%◌, ◌<◌, ◌≤◌, List, [], ◌∷◌, ◌++◌, length, map, set, take, refl, sym, ◌∙◌, ap, arith, append_assoc}
-use Rattle.std.specs.List.{flat_map, range_with_len}
+use Rattle.std.proofs.Common.{◌≡◌, Bool, ℕ, zero, suc, ◌+◌, ◌-◌, ◌*◌, ◌%◌, ◌<◌, ◌≤◌, List, [], ◌∷◌, ◌++◌, length, map, set, take, refl, sym, ◌∙◌, ap, arith, append_assoc, flat_map}
+use Rattle.std.specs.List.{range_with_len}
 use Rattle.std.proofs.Math.Nat.{mod-add-mod}
 use Rattle.std.proofs.lemmas.List.{append-nil, take_more_set, map-append}
 use Rattle.std.proofs.lemmas.List.FromFn.{map-range_with_len_more}
 use Rattle.std.proofs.lemmas.Grind.{flat_map-append}
-use Rattle.bit_machine.specs.Numbers.{line_value}
+use Rattle.bit_machine.specs.Numbers.{line_value, line_bit}
 use Rattle.bit_machine.specs.declared.made.Line.{Line}
-use Rattle.bit_machine.specs.Numbers.{line_bit}
 use Rattle.bit_machine.specs.Paths.{made_from}
 use Rattle.made_data.specs.DataText.{bit_byte, bits_word}
 use Rattle.made_data.specs.Entries.{data_bit}

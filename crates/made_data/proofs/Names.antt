@@ -1,7 +1,5 @@
 -- The names of the live tests over the wires of a sound chip: none stands twice.
-use Rattle.std.proofs.Common.{◌≡◌, ◌⊎◌, inl, inr, ℕ, suc, Bool, true, false, not, ◌&&◌, ◌||◌, List, [], ◌∷◌, ◌++◌, map, nat_eq, Some, None, Option, option_map, is_some, refl, sym, ◌∙◌, ap, subst, arith, append_assoc, eq-eqb}
-use Rattle.std.specs.Prelude.{slice_get, find}
-use Rattle.std.specs.List.{filter, flat_map}
+use Rattle.std.proofs.Common.{◌≡◌, ◌⊎◌, inl, inr, ℕ, suc, Bool, true, false, not, ◌&&◌, ◌||◌, List, [], ◌∷◌, ◌++◌, map, nat_eq, Some, None, Option, option_map, is_some, refl, sym, ◌∙◌, ap, subst, arith, append_assoc, eq-eqb, slice_get, find, filter, flat_map}
 use Rattle.std.proofs.lemmas.Bool.{cases_Bool, eqb-true, ne_eqb, or_parts}
 use Rattle.std.proofs.lemmas.List.Folds.{list_any-append}
 use Rattle.std.proofs.lemmas.Option.{slice_get-map}

@@ -5,7 +5,8 @@ ghost use Rattle.soc_model.specs.SoundChips.{IsSoundChip};
 ghost use Rattle.commands.specs.Ends.{WritesUnless, MakesPuts};
 ghost use Rattle.commands.specs.Texts.{is_line};
 ghost use Rattle.made_data.specs.Made.{made_text, long_line as line_of, long_refusal};
-ghost use Rattle.made_data.specs.Endings.{IsWritable, WritesEnding, PutsEnding};
+ghost use Rattle.commands.specs.Endings.{WritesEnding, PutsEnding};
+ghost use Rattle.made_data.specs.Endings.{IsWritable, ending_value};
 
 use crate::text::MadeData;
 use commands::{DATA_FILE_MOST, Status, Verdict, numbered, refused_with, write_verdict};
@@ -59,8 +60,9 @@ fn write_made<K: Sink>(alloc: Global, soc: &Soc, seed: u64, out: &mut K) -> Stat
 pub fn write_ending<K: Sink>(alloc: Global, ending: Ending, out: &mut K) -> Status
     requires { IsWritable ending }
     ensures faults_never_fall { K.faults out.old ≤ K.faults out.new }
-    ensures written { WritesEnding ending (K.faults out.old) (K.faults out.new) (K.written out.old) result (K.written out.new) }
-    ensures puts { PutsEnding K.is_put ending out.old result out.new }
+    ensures written { WritesEnding (ending_value ending) (K.faults out.old) (K.faults out.new) (K.written out.old) result
+        (K.written out.new) }
+    ensures puts { PutsEnding K.is_put (ending_value ending) out.old result out.new }
 {
     match ending {
         Ending::Decided(verdict) => write_verdict(verdict, out),

@@ -1,14 +1,11 @@
 -- Sums of times over the tests of a mode, and the wrappers that are designed.
-use Rattle.std.proofs.Common.{◌≡◌, ℕ, zero, suc, ◌+◌, ◌-◌, ◌≤◌, ◌<◌, Bool, true, false, Some, List, ◌∷◌, length, drop, get_or, refl, sym, ap, subst, ◌∙◌, arith, inl, inr}
-use Rattle.std.specs.Prelude.{◌&&◌, slice_get, IfSome}
-use Rattle.std.specs.List.{sum_by, filter}
+use Rattle.std.proofs.Common.{◌≡◌, ℕ, zero, suc, ◌+◌, ◌-◌, ◌≤◌, ◌<◌, Bool, true, false, Some, List, ◌∷◌, length, drop, get_or, refl, sym, ap, subst, ◌∙◌, arith, inl, inr, ◌&&◌, slice_get, IfSome, sum_by, filter}
 use Rattle.std.proofs.lemmas.List.{drop_more}
 use Rattle.std.proofs.lemmas.List.Sums.{sum_by-cons}
 use Rattle.std.proofs.lemmas.Bool.{cases_lt, and_parts}
 use Rattle.soc_model.specs.declared.Test.{Test}
-use Rattle.soc_model.specs.Chips.{ModuleValue, is_live}
+use Rattle.soc_model.specs.Chips.{ModuleValue, is_live, SocValue}
 use Rattle.soc_model.specs.Modes.{is_of_mode, same_mode}
-use Rattle.soc_model.specs.Chips.{SocValue}
 use Rattle.soc_model.specs.SoundChips.{IsSoundChip}
 use Rattle.plan_model.specs.Cells.{IsProper, chain_cells}
 use Rattle.plan_model.specs.Plans.{WrapperValue, operations_of}

@@ -1,7 +1,6 @@
 -- What the look-ups in a chip find.
-use Rattle.std.proofs.Common.{◌≡◌, ℕ, zero, suc, ◌+◌, ◌≤◌, ◌<◌, Bool, true, false, eqb, Option, Some, None, List, [], ◌∷◌, length, map, refl, ap, ◌∙◌, sym, arith, inl, inr, eq-eqb, true≢false}
-use Rattle.std.specs.Prelude.{slice_get, IfSome, IfNone}
-use Rattle.std.specs.List.{filter, position, position_or_len, Contains}
+use Rattle.std.proofs.Common.{◌≡◌, ℕ, zero, suc, ◌+◌, ◌≤◌, ◌<◌, Bool, true, false, eqb, Option, Some, None, List, [], ◌∷◌, length, map, refl, ap, ◌∙◌, sym, arith, inl, inr, eq-eqb, true≢false, slice_get, IfSome, IfNone, filter, position, Contains}
+use Rattle.std.specs.List.{position_or_len}
 use Rattle.std.proofs.lemmas.Bool.{cases_Bool, cases_lt, eqb-true, lt-ltb, le-ltb}
 use Rattle.std.proofs.lemmas.Option.{slice_get_within, get_or_from_slice_get, slice_get-map}
 use Rattle.soc_model.specs.declared.Test.{Test}

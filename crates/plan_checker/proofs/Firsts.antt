@@ -1,10 +1,8 @@
 -- The first item of a list that breaks a rule: an item at a time, and over lists that are joined.
-use Rattle.std.proofs.Common.{◌≡◌, ℕ, zero, suc, ◌+◌, ◌≤◌, ◌<◌, Some, List, [], ◌∷◌, ◌++◌, length, take, refl, ap, ◌∙◌, arith, inl, inr}
-use Rattle.std.specs.Prelude.{slice_get}
+use Rattle.std.proofs.Common.{◌≡◌, ℕ, zero, suc, ◌+◌, ◌≤◌, ◌<◌, Some, List, [], ◌∷◌, ◌++◌, length, take, refl, ap, ◌∙◌, arith, inl, inr, slice_get}
 use Rattle.std.proofs.lemmas.Option.{slice_get_within}
 use Rattle.plan_model.specs.Rules.{IsFirstBreach, Each}
-use Rattle.plan_model.proofs.Lists.{from_append}
-use Rattle.plan_model.proofs.Lists.{split_at}
+use Rattle.plan_model.proofs.Lists.{from_append, split_at}
 use Rattle.common_lemmas.proofs.Lists.{at_left}
 
 -- ---- joined lists

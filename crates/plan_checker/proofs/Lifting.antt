@@ -1,25 +1,23 @@
 -- From pairs of placed tests to pairs of the tests that a plan places.
-use Rattle.std.proofs.Common.{◌≡◌, ℕ, ◌≤◌, ◌<◌, Bool, true, false, true≢false, Some, None, List, length, map, refl, ap, ◌∙◌, sym, arith, inl, inr, ◌⊎◌, eq-eqb}
-use Rattle.std.specs.Prelude.{slice_get, slice_index}
+use Rattle.std.proofs.Common.{◌≡◌, ℕ, ◌≤◌, ◌<◌, Bool, true, false, true≢false, Some, None, List, length, map, refl, ap, ◌∙◌, sym, arith, inl, inr, ◌⊎◌, eq-eqb, slice_get, slice_index}
 use Rattle.std.proofs.lemmas.Bool.{cases_lt, cases_order, eqb-true}
 use Rattle.std.proofs.lemmas.Option.{slice_get_within, get_or_from_slice_get}
 use Rattle.soc_model.specs.Chips.{SocValue}
 use Rattle.plan_model.specs.Plans.{PlanValue, LimitsValue, PlannedTest, planned}
 use Rattle.plan_model.specs.Right.{IsAt}
-use Rattle.plan_model.specs.Rules.{ShareBus, ShareModule, AreParentAndChild, NoClash, Keeps}
+use Rattle.plan_model.specs.Rules.{ShareBus, ShareModule, AreParentAndChild, NoClash, Keeps, Clash as PlannedClash}
 use Rattle.plan_model.specs.Faults.{IsFirstClash, Shows, rank_of, fault_rank}
 use Rattle.plan_checker.specs.FaultValues.{fault_value}
-use Rattle.plan_model.specs.Rules.{Clash as PlannedClash}
 use Rattle.plan_model.proofs.PlannedTests.{Origin, origin}
 use Rattle.plan_model.proofs.GoodPlansRunRight.{planned_place}
 use Rattle.live_tests.specs.declared.placed.PlacedTest.{PlacedTest}
 use Rattle.plan_checker.specs.declared.clashes.ClashPlace.{ClashPlace}
 use Rattle.plan_checker.specs.declared.clashes.Apart.{Apart}
-use Rattle.plan_checker.specs.declared.clashes.Apart.TheVariants as apart
 use Rattle.live_tests.specs.Placed.{bus_over, placed_of, placed_tests}
 use Rattle.live_tests.specs.Parents.{HasParentAt, AreParents}
 use Rattle.plan_checker.specs.Clashes.{keeps_apart, same_slot, Clash, IsBefore, IsLeast, IsBest, clash_fault, rule_for}
 use Rattle.common_lemmas.proofs.Lists.{map_at, from_map}
+use Rattle.plan_checker.specs.declared.clashes.Apart.TheVariants as apart
 
 -- what the code asks of two placed tests is what the rule asks of the two tests
 pub record Agrees (r : PlacedTest → PlacedTest → Bool) (R : PlannedTest → PlannedTest → Type 0) (tests : List PlannedTest) : Type 0 where

@@ -1,14 +1,12 @@
 -- Marks of modules, module by module and bus by bus.
-use Rattle.std.proofs.Common.{◌≡◌, ℕ, suc, ◌+◌, ◌≤◌, ◌<◌, true, false, eqb, Option, Some, None, List, [], ◌∷◌, ◌++◌, length, set, take, drop, refl, ap, ◌∙◌, sym, arith, inl, inr, ◌⊎◌, eq-eqb, true≢false, append_assoc}
-use Rattle.std.specs.Prelude.{slice_get, slice_index, if◌then◌else◌, IfSome}
-use Rattle.std.specs.List.{list_any, flat_map, Contains}
+use Rattle.std.proofs.Common.{◌≡◌, ℕ, suc, ◌+◌, ◌≤◌, ◌<◌, true, false, eqb, Option, Some, None, List, [], ◌∷◌, ◌++◌, length, set, take, drop, refl, ap, ◌∙◌, sym, arith, inl, inr, ◌⊎◌, eq-eqb, true≢false, append_assoc, slice_get, slice_index, if◌then◌else◌, IfSome, flat_map, Contains}
+use Rattle.std.specs.List.{list_any}
 use Rattle.std.proofs.lemmas.Bool.{cases_Bool, cases_eq, eqb-true, ne_eqb}
 use Rattle.std.proofs.lemmas.List.{take_more, take_all, length-take-le, append-nil}
 use Rattle.std.proofs.lemmas.Option.{slice_get_within, get_or_from_slice_get}
-use Rattle.soc_model.specs.Chips.{SocValue, ModuleValue}
+use Rattle.soc_model.specs.Chips.{SocValue, ModuleValue, numbers}
 use Rattle.plan_model.specs.Plans.{BusValue, PlanValue, bus_place}
 use Rattle.plan_model.specs.Rules.{Each, IsFirstBreach, IsNew, IsListed, has_tam, listed}
-use Rattle.soc_model.specs.Chips.{numbers}
 use Rattle.plan_model.proofs.Lists.{any_from, in_flat_map}
 use Rattle.plan_checker.specs.Marks.{AreMarks, IsUnlisted, AreMarked, AreMarkedTo, AreBusesBy}
 use Rattle.plan_checker.proofs.Finding.{some_same, number_at}

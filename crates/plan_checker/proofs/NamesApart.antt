@@ -1,7 +1,5 @@
 -- The names of placed tests: no two have one, and each is found at its place.
-use Rattle.std.proofs.Common.{◌≡◌, ℕ, Some, None, Option, List, ap, ◌∙◌, sym, true≢false}
-use Rattle.std.specs.Prelude.{slice_get, IfSome, IfNone}
-use Rattle.std.specs.List.{position}
+use Rattle.std.proofs.Common.{◌≡◌, ℕ, Some, None, Option, List, ap, ◌∙◌, sym, true≢false, slice_get, IfSome, IfNone, position}
 use Rattle.soc_model.specs.declared.TestId.{TestId}
 use Rattle.soc_model.specs.Chips.{same_test}
 use Rattle.live_tests.specs.Names.{AllDiffer}

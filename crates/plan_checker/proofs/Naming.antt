@@ -1,7 +1,6 @@
 -- The modules that a plan names.
-use Rattle.std.proofs.Common.{◌≡◌, ◌+◌, length, List, [], ◌∷◌, ◌++◌, map, refl, ap, ◌∙◌, subst}
-use Rattle.std.specs.List.{flat_map, Contains}
-use Rattle.soc_model.specs.Chips.{SocValue}
+use Rattle.std.proofs.Common.{◌≡◌, ◌+◌, length, List, [], ◌∷◌, ◌++◌, map, refl, ap, ◌∙◌, subst, flat_map, Contains}
+use Rattle.soc_model.specs.Chips.{SocValue, numbers}
 use Rattle.plan_checker.specs.Broken.{EachOf}
 use Rattle.plan_checker.proofs.Firsts.{get_behind}
 use Rattle.plan_model.specs.declared.Plan.{Plan}
@@ -10,7 +9,6 @@ use Rattle.plan_model.specs.declared.Wrapper.{Wrapper}
 use Rattle.plan_model.specs.Plans.{BusValue, WrapperValue}
 use Rattle.plan_model.specs.Views.{plan_value, bus_value, wrapper_value}
 use Rattle.plan_model.specs.Rules.{named, Each, IsKnown}
-use Rattle.soc_model.specs.Chips.{numbers}
 
 pub listed_are : (buses : List Bus) → flat_map (λ (b : BusValue). b.modules) (map bus_value buses) ≡ flat_map (λ (b : Bus). b.modules.items) buses
 listed_are [] = refl

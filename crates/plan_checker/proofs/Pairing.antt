@@ -1,18 +1,15 @@
 -- The pairs of a module and a mode that want a wrapper.
-use Rattle.std.proofs.Common.{◌≡◌, ℕ, zero, suc, ◌+◌, ◌≤◌, Bool, true, false, not, Some, List, [], ◌∷◌, ◌++◌, length, map, take, leb, refl, ap, ◌∙◌, sym, subst, arith, inl, inr, true≢false}
-use Rattle.std.specs.Prelude.{slice_get, slice_index}
-use Rattle.std.specs.List.{list_any, Contains}
+use Rattle.std.proofs.Common.{◌≡◌, ℕ, zero, suc, ◌+◌, ◌≤◌, Bool, true, false, not, Some, List, [], ◌∷◌, ◌++◌, length, map, take, leb, refl, ap, ◌∙◌, sym, subst, arith, inl, inr, true≢false, slice_get, slice_index, Contains}
+use Rattle.std.specs.List.{list_any}
 use Rattle.std.proofs.lemmas.Bool.{cases_Bool, cases_lt, le-leb, lt-leb}
 use Rattle.std.proofs.lemmas.List.{take_more, map-append}
 use Rattle.std.proofs.lemmas.Option.{slice_get_within, get_or_from_slice_get}
-use Rattle.soc_model.specs.Chips.{ModuleValue, SocValue}
+use Rattle.soc_model.specs.Chips.{ModuleValue, SocValue, numbers}
 use Rattle.plan_model.specs.Plans.{BusValue, WrapperValue, bus_place}
 use Rattle.plan_checker.specs.Marks.{IsWired}
 use Rattle.plan_model.specs.Rules.{pair_of, uses_mode, mode_pair, used_pairs}
-use Rattle.soc_model.specs.Chips.{numbers}
-use Rattle.plan_model.proofs.Lists.{in_flat_map, from_append, any_from}
+use Rattle.plan_model.proofs.Lists.{in_flat_map, from_append, any_from, from_flat_map}
 use Rattle.plan_model.proofs.PlannedTests.{pair_used}
-use Rattle.plan_model.proofs.Lists.{from_flat_map}
 use Rattle.live_tests.specs.Index.{is_pair}
 use Rattle.plan_checker.proofs.Finding.{some_same, number_at}
 use Rattle.plan_checker.proofs.Listing.{is_pair_of, is_pair_itself}

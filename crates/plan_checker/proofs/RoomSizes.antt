@@ -1,7 +1,5 @@
 -- The sizes of the checker's room against those of a chip.
-use Rattle.std.proofs.Common.{◌≡◌, ℕ, ◌+◌, ◌*◌, ◌≤◌, Some, List, [], ◌∷◌, ◌++◌, Result, Ok, Err, Bool, true, false, length, take, ap, ◌∙◌, arith, inl, inr, Vec, Global}
-use Rattle.std.specs.Prelude.{slice_get, IfOk, OnOk}
-use Rattle.std.specs.List.{flat_map, filter, sum_by}
+use Rattle.std.proofs.Common.{◌≡◌, ℕ, ◌+◌, ◌*◌, ◌≤◌, Some, List, [], ◌∷◌, ◌++◌, Result, Ok, Err, Bool, true, false, length, take, ap, ◌∙◌, arith, inl, inr, Vec, Global, slice_get, IfOk, OnOk, flat_map, filter, sum_by}
 use Rattle.std.proofs.lemmas.Bool.{cases_Bool}
 use Rattle.std.specs.Vec.{with_items}
 use Rattle.std.proofs.lemmas.List.{length-append, with_items_is}

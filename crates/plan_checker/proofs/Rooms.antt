@@ -1,7 +1,6 @@
 -- What the rooms of the checker hold, and that they have place for it.
-use Rattle.std.proofs.Common.{◌≡◌, ℕ, zero, suc, ◌≤◌, ◌<◌, Bool, true, eqb, Some, Result, Ok, Err, List, [], ◌∷◌, length, get_or, map, take, refl, ap, ◌∙◌, sym, arith, inl, inr, eq-eqb, true≢false}
-use Rattle.std.specs.Prelude.{slice_get, IsOk, OnOk}
-use Rattle.std.specs.List.{list_any, Contains}
+use Rattle.std.proofs.Common.{◌≡◌, ℕ, zero, suc, ◌≤◌, ◌<◌, Bool, true, eqb, Some, Result, Ok, Err, List, [], ◌∷◌, length, get_or, map, take, refl, ap, ◌∙◌, sym, arith, inl, inr, eq-eqb, true≢false, slice_get, IsOk, OnOk, Contains}
+use Rattle.std.specs.List.{list_any}
 use Rattle.std.proofs.lemmas.Bool.{cases_Bool, and_parts, eqb-true}
 use Rattle.std.proofs.lemmas.Option.{slice_get-get_or}
 use Rattle.soc_model.specs.declared.TestId.{TestId}

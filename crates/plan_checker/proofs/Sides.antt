@@ -1,14 +1,13 @@
 -- From meetings in the order of starts to clashes in the order of the chip.
-use Rattle.std.proofs.Common.{◌≡◌, ℕ, ◌≤◌, ◌<◌, Bool, true, min, Option, Some, None, List, refl, ap, ◌∙◌, sym, subst, arith, inl, inr, ◌⊎◌}
-use Rattle.std.specs.Prelude.{slice_get, slice_index}
+use Rattle.std.proofs.Common.{◌≡◌, ℕ, ◌≤◌, ◌<◌, Bool, true, min, Option, Some, None, List, refl, ap, ◌∙◌, sym, subst, arith, inl, inr, ◌⊎◌, slice_get, slice_index}
 use Rattle.std.proofs.lemmas.Bool.{cases_lt, cases_order, eqb-true, eq-eqb, true≢false}
 use Rattle.live_tests.specs.declared.placed.PlacedTest.{PlacedTest}
 use Rattle.plan_checker.specs.declared.meetings.Begin.{Begin}
-use Rattle.plan_checker.specs.declared.meetings.EndKey.TheVariants as key
-use Rattle.plan_checker.specs.declared.clashes.Apart.TheVariants as apart
 use Rattle.plan_checker.specs.Clashes.{keeps_apart, same_slot, Clash, ParentsFirst, IsLeastCycle, IsFirstCycle}
 use Rattle.plan_checker.specs.Meetings.{notes_for, AreBegins, Meeting, IsFirstMeeting, earlier_of}
 use Rattle.plan_checker.proofs.Finding.{some_same}
+use Rattle.plan_checker.specs.declared.meetings.EndKey.TheVariants as key
+use Rattle.plan_checker.specs.declared.clashes.Apart.TheVariants as apart
 
 -- Two tests clash where one of two relations holds: `f` where the first of them in the order of the chip starts first, else
 -- `g`. And where either holds of two tests, in the order of their starts, they clash.

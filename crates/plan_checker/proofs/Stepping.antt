@@ -1,6 +1,5 @@
 -- The verdict on a plan from what the stages answer for their rules.
-use Rattle.std.proofs.Common.{◌≡◌, ℕ, ◌+◌, ◌<◌, Option, Some, None, refl, ap, ◌∙◌, sym, subst, arith, inl, inr}
-use Rattle.std.specs.Prelude.{IfNone, nat_eq, if◌then◌else◌}
+use Rattle.std.proofs.Common.{◌≡◌, ℕ, ◌+◌, ◌<◌, Option, Some, None, refl, ap, ◌∙◌, sym, subst, arith, inl, inr, IfNone, nat_eq, if◌then◌else◌}
 use Rattle.std.proofs.lemmas.Bool.{cases_lt}
 use Rattle.plan_checker.specs.FaultValues.{fault_value}
 use Rattle.plan_checker.specs.declared.PlanFault.{PlanFault}

@@ -1,7 +1,5 @@
 -- The sums over sorted events, event by event.
-use Rattle.std.proofs.Common.{◌≡◌, ℕ, zero, suc, ◌+◌, ◌*◌, ◌≤◌, ◌<◌, ◌^◌, Option, Some, None, List, [], ◌∷◌, length, get_or, take, refl, ap, ◌∙◌, sym, arith, inl, inr}
-use Rattle.std.specs.Prelude.{slice_get}
-use Rattle.std.specs.List.{sum_by}
+use Rattle.std.proofs.Common.{◌≡◌, ℕ, zero, suc, ◌+◌, ◌*◌, ◌≤◌, ◌<◌, ◌^◌, Option, Some, None, List, [], ◌∷◌, length, get_or, take, refl, ap, ◌∙◌, sym, arith, inl, inr, slice_get, sum_by}
 use Rattle.std.specs.List.Sorted.{IsNonDecreasingBy, IsPermutation}
 use Rattle.std.proofs.lemmas.Bool.{cases_lt, cases_eq, le-leb, lt-leb}
 use Rattle.std.proofs.lemmas.List.Sorted.{sum_by-IsPermutation}

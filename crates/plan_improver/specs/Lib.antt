@@ -2,4 +2,4 @@ pub mod Improved
 pub mod Requests
 pub mod Headlines
 pub mod Reports
-pub mod Grounds
+pub mod SearchBasis

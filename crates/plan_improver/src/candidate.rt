@@ -2,13 +2,14 @@
 ghost use Rattle.std.specs.Prelude.{◌≡◌, ◌<◌, ◌≤◌, true, length, IfOk, IfSome};
 ghost use Rattle.soc_model.specs.Chips.{soc_value};
 ghost use Rattle.soc_model.specs.SoundChips.{IsSoundChip};
-ghost use Rattle.plan_model.specs.SoundLimits.{IsSoundLimits};
 ghost use Rattle.plan_model.specs.Rules.{IsGood};
+ghost use Rattle.plan_model.specs.SoundLimits.{IsSoundLimits};
 ghost use Rattle.plan_model.specs.Views.{limits_value, plan_value};
 ghost use Rattle.plan_text.specs.Grammar.{AreSmallStarts};
 ghost use Rattle.arch_search.specs.Searches.{IsLent};
 
 use arch_search::Found;
+use live_tests::Problem;
 use outside::{NoMemory, push};
 use packed_wrappers::PackedWrappers;
 use plan_checker::first_fault;
@@ -144,9 +145,9 @@ fn plan_of(
     }))
 }
 
-/// Whether a plan is accepted.
-fn is_accepted(alloc: Global, soc: &Soc, limits: &Limits, plan: &Plan) -> Result<bool, NoMemory>
-    requires sound { IsSoundChip (soc_value soc.now) }
+/// Whether a plan has no fault.
+fn is_faultless(alloc: Global, soc: &Soc, limits: &Limits, plan: &Plan) -> Result<bool, NoMemory>
+    requires chip { IsSoundChip (soc_value soc.now) }
     requires limits { IsSoundLimits (soc_value soc.now) (limits_value limits.now) }
     requires starts { AreSmallStarts (plan_value plan.now).starts }
     ensures { IfOk result (λ good. good ≡ true → IsGood (soc_value soc.now) (limits_value limits.now) (plan_value plan.now)) }
@@ -157,31 +158,36 @@ fn is_accepted(alloc: Global, soc: &Soc, limits: &Limits, plan: &Plan) -> Result
     }
 }
 
+/// Whether a plan is accepted.
+fn is_accepted(alloc: Global, problem: &Problem<'_>, plan: &Plan) -> Result<bool, NoMemory>
+    requires { AreSmallStarts (plan_value plan.now).starts }
+    ensures { IfOk result (λ good. good ≡ true → IsGood problem.now.soc problem.now.limits (plan_value plan.now)) }
+{
+    is_faultless(alloc, problem.soc, problem.limits, plan)
+}
+
 /// The plan of what was found, where it is good and takes fewer than `cycles` cycles. Its starts are small enough for a plan's text.
 pub(crate) fn better_plan(
     alloc: Global,
-    soc: &Soc,
-    limits: &Limits,
+    problem: &Problem<'_>,
     packed: &PackedWrappers,
     found: &Found<'_>,
     cycles: u64,
 ) -> Result<Option<Plan>, NoMemory>
-    requires sound { IsSoundChip (soc_value soc.now) }
-    requires limits { IsSoundLimits (soc_value soc.now) (limits_value limits.now) }
-    requires chip { packed.now.soc ≡ soc_value soc.now }
-    requires wires { packed.now.wires ≡ limits.now.wires }
+    requires chip { packed.now.soc ≡ problem.now.soc }
+    requires wires { packed.now.wires ≡ problem.now.limits.wires }
     requires lent { IsLent found.now }
-    ensures good { IfOk result (λ plan. IfSome plan (λ p. IsGood (soc_value soc.now) (limits_value limits.now) (plan_value p))) }
+    ensures good { IfOk result (λ plan. IfSome plan (λ p. IsGood problem.now.soc problem.now.limits (plan_value p))) }
     ensures small_starts { IfOk result (λ plan. IfSome plan (λ p. AreSmallStarts (plan_value p).starts)) }
     ensures fewer { IfOk result (λ plan. IfSome plan (λ p. p.cycles < cycles)) }
 {
-    let Some(plan) = plan_of(alloc, soc, packed, limits.wires, found)? else {
+    let Some(plan) = plan_of(alloc, problem.soc, packed, problem.limits.wires, found)? else {
         return Ok(None);
     };
     if plan.cycles >= cycles {
         return Ok(None);
     }
-    if !is_accepted(alloc, soc, limits, &plan)? {
+    if !is_accepted(alloc, problem, &plan)? {
         return Ok(None);
     }
     Ok(Some(plan))

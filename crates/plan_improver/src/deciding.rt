@@ -1,12 +1,6 @@
 //! Decides how a call ends before anything is written.
-ghost use Rattle.std.specs.Prelude.{◌≡◌, ◌<◌, ◌≤◌, map, string_bytes, IfOk, IfSome};
-ghost use Rattle.soc_model.specs.Chips.{soc_value};
-ghost use Rattle.soc_model.specs.SoundChips.{IsSoundChip};
+ghost use Rattle.std.specs.Prelude.{◌≡◌, ◌<◌, ◌≤◌, map, string_bytes, IfOk};
 ghost use Rattle.plan_model.specs.Plans.{PlanValue};
-ghost use Rattle.plan_model.specs.SoundLimits.{IsSoundLimits};
-ghost use Rattle.plan_model.specs.Faults.{IsFaultless};
-ghost use Rattle.plan_model.specs.Rules.{live_ids};
-ghost use Rattle.plan_model.specs.Views.{limits_value, plan_value};
 ghost use Rattle.plan_text.specs.PlanLines.{plan_text};
 ghost use Rattle.commands.specs.Commands.{Improve, command_of as asked_command};
 ghost use Rattle.commands.specs.Procedures.{asked};
@@ -18,16 +12,16 @@ ghost use Rattle.plan_improver.specs.Improved.{IsImproved};
 ghost use Rattle.plan_improver.specs.Requests.{procedure_of, IsQuiet};
 ghost use Rattle.plan_improver.specs.Reports.{MayReport, MayReportOf};
 
-use crate::improving::{Known, improved};
+use crate::improving::improved;
 use commands::{
     Accepted, Command, Status, Verdict, answered_with, bad_words, command_of, load_all,
 };
-use limits_text::resolved_of;
+use live_tests::Problem;
 use outside::{NoMemory, Shelf, Sink};
 use plan_text::print_plan;
 use std::alloc::Global;
 
-/// The text of an improved plan.
+/// The text of a plan that is improved from one that is accepted.
 fn text_of<T: Sink>(
     alloc: Global,
     all: Accepted,
@@ -35,12 +29,8 @@ fn text_of<T: Sink>(
     seed: u64,
     progress: &mut T,
 ) -> Result<Vec<u8>, NoMemory>
-    requires sound { IsSoundChip (soc_value all.soc) }
-    requires limits { IsSoundLimits (soc_value all.soc) (limits_value all.limits) }
-    requires live { IfSome all.live (λ tests. tests ≡ live_ids (soc_value all.soc)) }
-    requires given { IsFaultless (soc_value all.soc) (limits_value all.limits) (plan_value all.plan) }
     ensures text { IfOk result (λ text. (value : PlanValue)
-        × IsImproved (soc_value all.soc) (limits_value all.limits) tries (plan_value all.plan) value × (text.items ≡ plan_text value)) }
+        × IsImproved all.soc all.limits tries all.plan value × (text.items ≡ plan_text value)) }
     ensures faults_never_fall { T.faults progress.old ≤ T.faults progress.new }
     ensures quiet { tries < REPORTED_FROM → progress.new ≡ progress.old }
     ensures reported { MayReport tries (T.written progress.old) (T.written progress.new) }
@@ -48,16 +38,11 @@ fn text_of<T: Sink>(
     let Accepted {
         soc,
         limits,
+        resolved,
         plan,
-        live,
     } = all;
-    let resolved = resolved_of(alloc, &soc, &limits, live)?;
-    let known = Known {
-        soc: &soc,
-        limits: &limits,
-        resolved: &resolved,
-    };
-    let better = improved(alloc, &known, plan, tries, seed, progress)?;
+    let problem = Problem::new(&soc, &limits, &resolved);
+    let better = improved(alloc, &problem, plan, tries, seed, progress)?;
     print_plan(alloc, &better)
 }
 

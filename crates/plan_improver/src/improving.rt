@@ -1,66 +1,51 @@
 //! A better plan, with the greater of two bounds.
 ghost use Rattle.std.specs.Prelude.{◌≡◌, ℕ, ◌<◌, ◌≤◌, None, length, IfOk, IfSome};
-ghost use Rattle.soc_model.specs.Chips.{soc_value, live_tests};
+ghost use Rattle.soc_model.specs.Chips.{live_tests};
 ghost use Rattle.resource_table.specs.Jobs.{job_value, IsSoundJob};
-ghost use Rattle.soc_model.specs.SoundChips.{IsSoundChip};
-ghost use Rattle.plan_model.specs.SoundLimits.{IsSoundLimits};
 ghost use Rattle.plan_model.specs.Rules.{IsGood, IsBound};
 ghost use Rattle.plan_model.specs.Certificates.{IsAccepted};
 ghost use Rattle.plan_model.specs.Faults.{IsFaultless};
 ghost use Rattle.plan_model.specs.Runs.{Content};
 ghost use Rattle.plan_model.specs.Right.{IsRight};
-ghost use Rattle.plan_model.specs.Views.{limits_value, plan_value, bound_value};
-ghost use Rattle.live_tests.specs.Resolved.{IsResolved};
+ghost use Rattle.plan_model.specs.Views.{plan_value, bound_value};
 ghost use Rattle.plan_text.specs.Grammar.{AreSmallStarts};
 ghost use Rattle.plan_improver.specs.declared.progress.TheConstants.{REPORTED_FROM};
-ghost use Rattle.plan_improver.specs.Grounds.{AreGrounds};
+ghost use Rattle.plan_improver.specs.SearchBasis.{IsSearchBasis};
 ghost use Rattle.plan_improver.specs.Improved.{IsGreaterBound, IsRaised, IsImproved};
 ghost use Rattle.plan_improver.specs.Reports.{MayReport};
 
 use crate::candidate::{better_plan, no_bound};
 use crate::laws::faultless_plans_are_in_range;
 use crate::progress::run_reported;
-use arch_search::{Problem, Search};
+use arch_search::Search;
 use bound_certificate::best_bound_with;
 use commands::line_room;
-use live_tests::Resolved;
+use live_tests::Problem;
 use outside::{NoMemory, Sink};
 use packed_wrappers::PackedWrappers;
-use plan_model::{Bound, Limits, Plan, good_plans_run_right};
-use planner::{JobSource, job_with};
+use plan_model::{Bound, Plan, good_plans_run_right};
+use planner::job_with;
 use resource_table::Job;
-use soc_model::Soc;
 use std::alloc::Global;
 use std::mem;
 use width_table::WidthTable;
 
-/// A chip and limits for it, with what both say by places.
-#[derive(Clone, Copy, Drop)]
-pub struct Known<'a> {
-    pub soc: &'a Soc,
-    pub limits: &'a Limits,
-    pub resolved: &'a Resolved,
-}
-
 /// The greater of a given bound and of the best one at the cycles of a good plan; of equal ones the given one.
 fn greater_bound(
     alloc: Global,
-    known: &Known<'_>,
+    problem: &Problem<'_>,
     cycles: u64,
     given: Bound,
 ) -> Result<Bound, NoMemory>
-    requires sound { IsSoundChip (soc_value known.now.soc.now) }
-    requires limits { IsSoundLimits (soc_value known.now.soc.now) (limits_value known.now.limits.now) }
-    requires resolved { IsResolved (soc_value known.now.soc.now) known.now.limits.now known.now.resolved.now }
-    requires good { (n : ℕ) → IsBound (soc_value known.now.soc.now) (limits_value known.now.limits.now) n → n ≤ cycles }
-    requires accepted { IsAccepted (soc_value known.now.soc.now) (limits_value known.now.limits.now) (bound_value given) }
-    ensures greater { IfOk result (λ bound. IsGreaterBound (soc_value known.now.soc.now) (limits_value known.now.limits.now) cycles
+    requires good { (n : ℕ) → IsBound problem.now.soc problem.now.limits n → n ≤ cycles }
+    requires accepted { IsAccepted problem.now.soc problem.now.limits (bound_value given) }
+    ensures greater { IfOk result (λ bound. IsGreaterBound problem.now.soc problem.now.limits cycles
         (bound_value given) (bound_value bound)) }
-    ensures accepted { IfOk result (λ bound. IsAccepted (soc_value known.now.soc.now) (limits_value known.now.limits.now)
+    ensures accepted { IfOk result (λ bound. IsAccepted problem.now.soc problem.now.limits
         (bound_value bound)) }
     ensures at_least { IfOk result (λ bound. given.cycles ≤ bound.cycles) }
 {
-    let best = best_bound_with(alloc, known.soc, known.limits, known.resolved, cycles)?;
+    let best = best_bound_with(alloc, problem, cycles)?;
     if given.cycles < best.cycles {
         return Ok(best);
     }
@@ -70,16 +55,13 @@ fn greater_bound(
 /// A good plan, with the greater of a given bound and of the best one at its cycles.
 fn with_greater_bound(
     alloc: Global,
-    known: &Known<'_>,
+    problem: &Problem<'_>,
     plan: Plan,
     given: Bound,
 ) -> Result<Plan, NoMemory>
-    requires sound { IsSoundChip (soc_value known.now.soc.now) }
-    requires limits { IsSoundLimits (soc_value known.now.soc.now) (limits_value known.now.limits.now) }
-    requires resolved { IsResolved (soc_value known.now.soc.now) known.now.limits.now known.now.resolved.now }
-    requires good { IsGood (soc_value known.now.soc.now) (limits_value known.now.limits.now) (plan_value plan) }
-    requires accepted { IsAccepted (soc_value known.now.soc.now) (limits_value known.now.limits.now) (bound_value given) }
-    ensures { IfOk result (λ new. IsRaised (soc_value known.now.soc.now) (limits_value known.now.limits.now) (plan_value plan)
+    requires good { IsGood problem.now.soc problem.now.limits (plan_value plan) }
+    requires accepted { IsAccepted problem.now.soc problem.now.limits (bound_value given) }
+    ensures { IfOk result (λ new. IsRaised problem.now.soc problem.now.limits (plan_value plan)
         (bound_value given) (plan_value new)) }
 {
     let Plan {
@@ -89,7 +71,7 @@ fn with_greater_bound(
         cycles,
         bound: _,
     } = plan;
-    let bound = greater_bound(alloc, known, cycles, given)?;
+    let bound = greater_bound(alloc, problem, cycles, given)?;
     Ok(Plan {
         buses,
         wrappers,
@@ -100,76 +82,61 @@ fn with_greater_bound(
 }
 
 /// The job of a plan's tests.
-fn job_of_plan(alloc: Global, known: &Known<'_>, given: &Plan) -> Result<Job, NoMemory>
-    requires sound { IsSoundChip (soc_value known.now.soc.now) }
-    requires limits { IsSoundLimits (soc_value known.now.soc.now) (limits_value known.now.limits.now) }
-    requires resolved { IsResolved (soc_value known.now.soc.now) known.now.limits.now known.now.resolved.now }
-    requires given { IsGood (soc_value known.now.soc.now) (limits_value known.now.limits.now) (plan_value given.now) }
+fn job_of_plan(alloc: Global, problem: &Problem<'_>, given: &Plan) -> Result<Job, NoMemory>
+    requires given { IsGood problem.now.soc problem.now.limits (plan_value given.now) }
     ensures sound { IfOk result (λ job. IsSoundJob (job_value job)) }
-    ensures tests { IfOk result (λ job. length (job_value job).tests ≡ length (live_tests (soc_value known.now.soc.now))) }
+    ensures tests { IfOk result (λ job. length (job_value job).tests ≡ length (live_tests problem.now.soc)) }
 {
-    let parts = JobSource {
-        soc: known.soc,
-        limits: known.limits,
-        buses: &given.buses,
-        wrappers: &given.wrappers,
-    };
-    let job = job_with(alloc, &parts, known.resolved)?;
+    let job = job_with(alloc, problem, &given.buses, &given.wrappers)?;
     Ok(job)
 }
 
 /// What a search for a better plan goes by.
 #[derive(Drop)]
-struct Grounds<'a> {
+struct SearchBasis<'a> {
     /// The wrappers of the modules on each width.
     packed: PackedWrappers<'a>,
     /// The job of the given plan's tests.
     job: Job,
     /// Those tests, with their cycles on each width.
-    problem: Problem,
+    problem: arch_search::TimedTests,
 }
 
 /// What a search that begins at a plan goes by.
-fn grounds_of<'a>(
+fn basis_of<'a>(
     alloc: Global,
-    known: &Known<'a>,
+    problem: &Problem<'a>,
     table: &'a WidthTable<'a>,
     given: &Plan,
-) -> Result<Grounds<'a>, NoMemory>
-    requires sound { IsSoundChip (soc_value known.now.soc.now) }
-    requires limits { IsSoundLimits (soc_value known.now.soc.now) (limits_value known.now.limits.now) }
-    requires resolved { IsResolved (soc_value known.now.soc.now) known.now.limits.now known.now.resolved.now }
-    requires chip { table.now.soc ≡ soc_value known.now.soc.now }
-    requires wires { table.now.wires ≡ known.now.limits.now.wires }
-    requires given { IsGood (soc_value known.now.soc.now) (limits_value known.now.limits.now) (plan_value given.now) }
-    ensures { IfOk result (AreGrounds (soc_value known.now.soc.now) known.now.limits.now.wires) }
+) -> Result<SearchBasis<'a>, NoMemory>
+    requires chip { table.now.soc ≡ problem.now.soc }
+    requires wires { table.now.wires ≡ problem.now.limits.wires }
+    requires given { IsGood problem.now.soc problem.now.limits (plan_value given.now) }
+    ensures { IfOk result (IsSearchBasis problem.now.soc problem.now.limits.wires) }
 {
-    let wires = known.limits.wires;
-    let packed = PackedWrappers::new(alloc, known.soc, table, wires)?;
-    let job = job_of_plan(alloc, known, given)?;
-    let problem = Problem::new(alloc, known.soc, &packed, wires, &job)?;
-    Ok(Grounds {
+    let wires = problem.limits.wires;
+    let packed = PackedWrappers::new(alloc, problem.soc, table, wires)?;
+    let job = job_of_plan(alloc, problem, given)?;
+    let tests = arch_search::TimedTests::new(alloc, problem.soc, &packed, wires, &job)?;
+    Ok(SearchBasis {
         packed,
         job,
-        problem,
+        problem: tests,
     })
 }
 
-/// A good plan of fewer cycles than the given one, where `tries` tries of a search on its grounds find one.
+/// A good plan of fewer cycles than the given one, where `tries` tries of a search on its basis find one.
 fn searched_on<T: Sink>(
     alloc: Global,
-    known: &Known<'_>,
-    grounds: &Grounds<'_>,
+    problem: &Problem<'_>,
+    basis: &SearchBasis<'_>,
     given: &Plan,
     tries: u64,
     seed: u64,
     progress: &mut T,
 ) -> Result<Option<Plan>, NoMemory>
-    requires sound { IsSoundChip (soc_value known.now.soc.now) }
-    requires limits { IsSoundLimits (soc_value known.now.soc.now) (limits_value known.now.limits.now) }
-    requires resolved { IsResolved (soc_value known.now.soc.now) known.now.limits.now known.now.resolved.now }
-    requires grounds { AreGrounds (soc_value known.now.soc.now) known.now.limits.now.wires grounds.now }
-    ensures good { IfOk result (λ plan. IfSome plan (λ p. IsGood (soc_value known.now.soc.now) (limits_value known.now.limits.now)
+    requires basis { IsSearchBasis problem.now.soc problem.now.limits.wires basis.now }
+    ensures good { IfOk result (λ plan. IfSome plan (λ p. IsGood problem.now.soc problem.now.limits
         (plan_value p))) }
     ensures small_starts { IfOk result (λ plan. IfSome plan (λ p. AreSmallStarts (plan_value p).starts)) }
     ensures fewer { IfOk result (λ plan. IfSome plan (λ p. p.cycles < given.now.cycles)) }
@@ -178,18 +145,11 @@ fn searched_on<T: Sink>(
     ensures reported { MayReport tries (T.written progress.old) (T.written progress.new) }
 {
     let mut line = line_room(alloc)?;
-    let names = &known.resolved.tests;
-    let mut search = Search::new(alloc, names, &grounds.problem, &grounds.job, given, seed)?;
+    let names = &problem.resolved.tests;
+    let mut search = Search::new(alloc, names, &basis.problem, &basis.job, given, seed)?;
     run_reported(&mut search, tries, &mut line, progress);
     search.schedule_best();
-    let plan = better_plan(
-        alloc,
-        known.soc,
-        known.limits,
-        &grounds.packed,
-        &search.found(),
-        given.cycles,
-    );
+    let plan = better_plan(alloc, problem, &basis.packed, &search.found(), given.cycles);
     search.free();
     plan
 }
@@ -197,20 +157,17 @@ fn searched_on<T: Sink>(
 /// A good plan of fewer cycles than the given one, where `tries` tries of a search over a width table of the chip find one.
 fn searched_over<T: Sink>(
     alloc: Global,
-    known: &Known<'_>,
+    problem: &Problem<'_>,
     table: &WidthTable<'_>,
     given: &Plan,
     tries: u64,
     seed: u64,
     progress: &mut T,
 ) -> Result<Option<Plan>, NoMemory>
-    requires sound { IsSoundChip (soc_value known.now.soc.now) }
-    requires limits { IsSoundLimits (soc_value known.now.soc.now) (limits_value known.now.limits.now) }
-    requires resolved { IsResolved (soc_value known.now.soc.now) known.now.limits.now known.now.resolved.now }
-    requires chip { table.now.soc ≡ soc_value known.now.soc.now }
-    requires wires { table.now.wires ≡ known.now.limits.now.wires }
-    requires given { IsGood (soc_value known.now.soc.now) (limits_value known.now.limits.now) (plan_value given.now) }
-    ensures good { IfOk result (λ plan. IfSome plan (λ p. IsGood (soc_value known.now.soc.now) (limits_value known.now.limits.now)
+    requires chip { table.now.soc ≡ problem.now.soc }
+    requires wires { table.now.wires ≡ problem.now.limits.wires }
+    requires given { IsGood problem.now.soc problem.now.limits (plan_value given.now) }
+    ensures good { IfOk result (λ plan. IfSome plan (λ p. IsGood problem.now.soc problem.now.limits
         (plan_value p))) }
     ensures small_starts { IfOk result (λ plan. IfSome plan (λ p. AreSmallStarts (plan_value p).starts)) }
     ensures fewer { IfOk result (λ plan. IfSome plan (λ p. p.cycles < given.now.cycles)) }
@@ -218,27 +175,24 @@ fn searched_over<T: Sink>(
     ensures quiet { tries < REPORTED_FROM → progress.new ≡ progress.old }
     ensures reported { MayReport tries (T.written progress.old) (T.written progress.new) }
 {
-    let grounds = grounds_of(alloc, known, table, given)?;
-    let plan = searched_on(alloc, known, &grounds, given, tries, seed, progress);
+    let basis = basis_of(alloc, problem, table, given)?;
+    let plan = searched_on(alloc, problem, &basis, given, tries, seed, progress);
     // dropped by a call: the end of the scope would drop each of its parts, and be proved for each
-    drop(grounds);
+    drop(basis);
     plan
 }
 
 /// A good plan of fewer cycles than the given one, where `tries` tries find one.
 fn searched<T: Sink>(
     alloc: Global,
-    known: &Known<'_>,
+    problem: &Problem<'_>,
     given: &Plan,
     tries: u64,
     seed: u64,
     progress: &mut T,
 ) -> Result<Option<Plan>, NoMemory>
-    requires sound { IsSoundChip (soc_value known.now.soc.now) }
-    requires limits { IsSoundLimits (soc_value known.now.soc.now) (limits_value known.now.limits.now) }
-    requires resolved { IsResolved (soc_value known.now.soc.now) known.now.limits.now known.now.resolved.now }
-    requires given { IsFaultless (soc_value known.now.soc.now) (limits_value known.now.limits.now) (plan_value given.now) }
-    ensures good { IfOk result (λ plan. IfSome plan (λ p. IsGood (soc_value known.now.soc.now) (limits_value known.now.limits.now)
+    requires given { IsFaultless problem.now.soc problem.now.limits (plan_value given.now) }
+    ensures good { IfOk result (λ plan. IfSome plan (λ p. IsGood problem.now.soc problem.now.limits
         (plan_value p))) }
     ensures small_starts { IfOk result (λ plan. IfSome plan (λ p. AreSmallStarts (plan_value p).starts)) }
     ensures fewer { IfOk result (λ plan. IfSome plan (λ p. p.cycles < given.now.cycles)) }
@@ -250,8 +204,8 @@ fn searched<T: Sink>(
     if tries == 0 {
         return Ok(None);
     }
-    let table = WidthTable::new(alloc, known.soc, known.limits.wires)?;
-    let plan = searched_over(alloc, known, &table, given, tries, seed, progress);
+    let table = WidthTable::new(alloc, problem.soc, problem.limits.wires)?;
+    let plan = searched_over(alloc, problem, &table, given, tries, seed, progress);
     drop(table);
     plan
 }
@@ -263,35 +217,34 @@ fn searched<T: Sink>(
 /// fails nothing else changes. `NoMemory` where there is none.
 pub fn improved<T: Sink>(
     alloc: Global,
-    known: &Known<'_>,
+    problem: &Problem<'_>,
     mut given: Plan,
     tries: u64,
     seed: u64,
     progress: &mut T,
 ) -> Result<Plan, NoMemory>
-    requires sound { IsSoundChip (soc_value known.now.soc.now) }
-    requires limits { IsSoundLimits (soc_value known.now.soc.now) (limits_value known.now.limits.now) }
-    requires resolved { IsResolved (soc_value known.now.soc.now) known.now.limits.now known.now.resolved.now }
-    requires given { IsFaultless (soc_value known.now.soc.now) (limits_value known.now.limits.now) (plan_value given) }
-    ensures improved { IfOk result (λ plan. IsImproved (soc_value known.now.soc.now) (limits_value known.now.limits.now) tries
+    requires given { IsFaultless problem.now.soc problem.now.limits (plan_value given) }
+    ensures improved { IfOk result (λ plan. IsImproved problem.now.soc problem.now.limits tries
         (plan_value given) (plan_value plan)) }
     ensures right { IfOk result (λ plan. (content : Content) →
-        IsRight (soc_value known.now.soc.now) (limits_value known.now.limits.now) (plan_value plan) content) }
+        IsRight problem.now.soc problem.now.limits (plan_value plan) content) }
     ensures faults_never_fall { T.faults progress.old ≤ T.faults progress.new }
     ensures quiet { tries < REPORTED_FROM → progress.new ≡ progress.old }
     ensures reported { MayReport tries (T.written progress.old) (T.written progress.new) }
 {
+    // opened for what it keeps
+    let _ = &problem.soc;
     good_plans_run_right();
     faultless_plans_are_in_range();
-    let found = searched(alloc, known, &given, tries, seed, progress)?;
+    let found = searched(alloc, problem, &given, tries, seed, progress)?;
     let bound = mem::replace(&mut given.bound, no_bound());
     match found {
         Some(plan) => {
-            let better = with_greater_bound(alloc, known, plan, bound)?;
+            let better = with_greater_bound(alloc, problem, plan, bound)?;
             Ok(better)
         }
         None => {
-            let kept = with_greater_bound(alloc, known, given, bound)?;
+            let kept = with_greater_bound(alloc, problem, given, bound)?;
             Ok(kept)
         }
     }

@@ -11,5 +11,5 @@ mod laws;
 mod progress;
 mod top;
 
-pub use improving::{Known, improved};
+pub use improving::improved;
 pub use top::improve;

@@ -1,33 +1,42 @@
 //! Decides how a call ends before anything is written.
-ghost use Rattle.std.specs.Prelude.{◌≡◌, ◌≤◌, map, string_bytes, IfSome};
-ghost use Rattle.soc_model.specs.Chips.{soc_value};
-ghost use Rattle.soc_model.specs.SoundChips.{IsSoundChip};
-ghost use Rattle.plan_model.specs.Rules.{IsGood, live_ids};
-ghost use Rattle.plan_model.specs.SoundLimits.{IsSoundLimits};
-ghost use Rattle.plan_model.specs.Views.{limits_value, plan_value};
+ghost use Rattle.std.specs.Prelude.{◌≡◌, ◌≤◌, map, string_bytes, IfErr, IfOk, OnOk};
 ghost use Rattle.commands.specs.Commands.{Picture, PictureWithProof, command_of as asked_command};
 ghost use Rattle.commands.specs.Procedures.{asked};
 ghost use Rattle.commands.specs.Decides.{AnswersBytes, Decides, Follows};
 ghost use Rattle.commands.specs.Ends.{IsCommand};
 ghost use Rattle.commands.specs.Loads.{LoadsGive};
-ghost use Rattle.live_tests.specs.Resolved.{IsResolved};
+ghost use Rattle.picture.specs.PictureText.{picture_of_claim, picture_text};
+ghost use Rattle.proof_model.specs.Proofs.{proof_value};
+ghost use Rattle.proof_model.specs.Sayable.{MayBeSaid};
+ghost use Rattle.bus_proofs.specs.Bounds.{IsAccepted, IsProofFault};
 ghost use Rattle.bound_checker.specs.Readings.{RefusesProof, SaysBound};
 ghost use Rattle.plan_picture.specs.Pictures.{claim_picture, procedure_of, with_claim};
 
-use bound_checker::{proof_fault_line, proof_line};
-use bus_proofs::{ProofRoom, check_proof};
+use bound_checker::{checked_proof, proof_fault_line, proof_line};
+use bus_proofs::ProofFault;
 use commands::{
     Accepted, Command, FileKind, Status, Verdict, answered_with, bad_words, command_of, load_all,
     load_file, refused_with,
 };
-use limits_text::resolved_of;
-use live_tests::Resolved;
-use outside::Shelf;
+use outside::{NoMemory, Shelf};
 use picture::{print_picture, print_picture_of_claim};
-use plan_model::{Limits, Plan};
+use proof_model::Proof;
 use proof_text::{ProofTextFault, read_proof};
-use soc_model::Soc;
 use std::alloc::Global;
+
+/// The picture of a plan that is accepted.
+fn text_of(alloc: Global, all: &Accepted) -> Result<Vec<u8>, NoMemory>
+    ensures { IfOk result (λ text. text.items ≡ picture_text all.now.soc all.now.limits all.now.plan) }
+{
+    print_picture(alloc, &all.soc, &all.limits, &all.plan)
+}
+
+/// The same with the claim of a proof, in cycles, in the place of the plan's own bound.
+fn text_of_claim(alloc: Global, all: &Accepted, claimed: u64) -> Result<Vec<u8>, NoMemory>
+    ensures { IfOk result (λ text. text.items ≡ picture_of_claim all.now.soc all.now.limits all.now.plan claimed) }
+{
+    print_picture_of_claim(alloc, &all.soc, &all.limits, &all.plan, claimed)
+}
 
 /// `picture SOC LIMITS PLAN`: the picture of a plan that is accepted.
 fn decide_picture<H: Shelf>(
@@ -45,88 +54,63 @@ fn decide_picture<H: Shelf>(
         shelf.old result shelf.new }
 {
     match load_all(alloc, soc, limits, plan, shelf) {
-        Ok(all) => answered_with(
-            Status::Done,
-            print_picture(alloc, &all.soc, &all.limits, &all.plan),
-        ),
+        Ok(all) => {
+            let text = text_of(alloc, &all);
+            all.free();
+            answered_with(Status::Done, text)
+        }
         Err(verdict) => verdict,
     }
 }
 
-/// What is answered of a proof's bytes, for a plan of a chip under limits: the picture with the claim, or as `bound` refuses them.
-fn answer_proof(
+/// Checks a proof that was read for the chip and the limits of a plan.
+fn checked_for(
     alloc: Global,
-    soc: &Soc,
-    limits: &Limits,
-    plan: &Plan,
-    resolved: &Resolved,
-    bytes: &[u8],
-) -> Verdict
-    requires chip { IsSoundChip (soc_value soc.now) }
-    requires limits { IsSoundLimits (soc_value soc.now) (limits_value limits.now) }
-    requires good { IsGood (soc_value soc.now) (limits_value limits.now) (plan_value plan.now) }
-    requires resolved { IsResolved (soc_value soc.now) limits.now resolved.now }
-    ensures { AnswersBytes (SaysBound (soc_value soc.now) (limits_value limits.now))
-        (RefusesProof (soc_value soc.now) (limits_value limits.now))
-        (claim_picture (soc_value soc.now) (limits_value limits.now) (plan_value plan.now)) bytes.now result }
+    all: &Accepted,
+    proof: &Proof,
+) -> Result<Result<(), ProofFault>, NoMemory>
+    requires { MayBeSaid (proof_value proof.now) }
+    ensures accepted { IfOk result (λ checked. OnOk checked (IsAccepted all.now.soc all.now.limits (proof_value proof.now))) }
+    ensures fault { IfOk result (λ checked. IfErr checked (IsProofFault all.now.soc all.now.limits (proof_value proof.now))) }
+{
+    let checked = checked_proof(alloc, &all.problem(), proof)?;
+    Ok(checked)
+}
+
+/// What is answered of a proof's bytes, for a plan that is accepted: the picture with the claim, or as `bound` refuses them.
+fn answer_proof(alloc: Global, all: &Accepted, bytes: &[u8]) -> Verdict
+    ensures { AnswersBytes (SaysBound all.now.soc all.now.limits) (RefusesProof all.now.soc all.now.limits)
+        (claim_picture all.now.soc all.now.limits all.now.plan) bytes.now result }
 {
     let proof = match read_proof(alloc, bytes) {
         Ok(proof) => proof,
         Err(ProofTextFault::Text { line }) => return refused_with(proof_line(alloc, line)),
         Err(ProofTextFault::NoMemory) => return Verdict::NoMemory,
     };
-    let Ok(mut room) = ProofRoom::with_resolved(alloc, soc, limits, resolved, &proof) else {
+    let Ok(checked) = checked_for(alloc, all, &proof) else {
         return Verdict::NoMemory;
     };
-    match check_proof(&mut room) {
-        Ok(()) => answered_with(
-            Status::Done,
-            print_picture_of_claim(alloc, soc, limits, plan, proof.claimed),
-        ),
+    match checked {
+        Ok(()) => answered_with(Status::Done, text_of_claim(alloc, all, proof.claimed)),
         Err(fault) => refused_with(proof_fault_line(alloc, fault)),
     }
 }
 
-/// Resolves a chip and its limits, and answers a proof's bytes for a plan of them.
-fn answer_bytes(alloc: Global, all: Accepted, bytes: &[u8]) -> Verdict
-    requires chip { IsSoundChip (soc_value all.soc) }
-    requires limits { IsSoundLimits (soc_value all.soc) (limits_value all.limits) }
-    requires live { IfSome all.live (λ tests. tests ≡ live_ids (soc_value all.soc)) }
-    requires good { IsGood (soc_value all.soc) (limits_value all.limits) (plan_value all.plan) }
-    ensures { AnswersBytes (SaysBound (soc_value all.soc) (limits_value all.limits))
-        (RefusesProof (soc_value all.soc) (limits_value all.limits))
-        (claim_picture (soc_value all.soc) (limits_value all.limits) (plan_value all.plan)) bytes.now result }
-{
-    let Accepted {
-        soc,
-        limits,
-        plan,
-        live,
-    } = all;
-    let Ok(resolved) = resolved_of(alloc, &soc, &limits, live) else {
-        return Verdict::NoMemory;
-    };
-    let verdict = answer_proof(alloc, &soc, &limits, &plan, &resolved, bytes);
-    drop(resolved);
-    verdict
-}
-
-/// Loads the proof of this name and answers its bytes for a plan, else how the command ends without them.
+/// Loads the proof of this name and answers its bytes for a plan that is accepted, else how the command ends without them.
 fn answer_all<H: Shelf>(alloc: Global, all: Accepted, name: &str, shelf: &mut H) -> Verdict
-    requires chip { IsSoundChip (soc_value all.soc) }
-    requires limits { IsSoundLimits (soc_value all.soc) (limits_value all.limits) }
-    requires live { IfSome all.live (λ tests. tests ≡ live_ids (soc_value all.soc)) }
-    requires good { IsGood (soc_value all.soc) (limits_value all.limits) (plan_value all.plan) }
     ensures held_stays { H.held shelf.new ≡ H.held shelf.old }
     ensures faults_never_fall { H.faults shelf.old ≤ H.faults shelf.new }
-    ensures follows { Follows (with_claim name.now (soc_value all.soc) (limits_value all.limits) (plan_value all.plan)) (H.held shelf.old)
+    ensures follows { Follows (with_claim name.now all.soc all.limits all.plan) (H.held shelf.old)
         (H.faults shelf.old) (H.faults shelf.new) result }
-    ensures by_loads { LoadsGive H.is_load
-        (with_claim name.now (soc_value all.soc) (limits_value all.limits) (plan_value all.plan))
+    ensures by_loads { LoadsGive H.is_load (with_claim name.now all.soc all.limits all.plan)
         shelf.old result shelf.new }
 {
     match load_file(alloc, FileKind::Proof, name, shelf) {
-        Ok(bytes) => answer_bytes(alloc, all, bytes.as_slice()),
+        Ok(bytes) => {
+            let verdict = answer_proof(alloc, &all, bytes.as_slice());
+            all.free();
+            verdict
+        }
         Err(verdict) => {
             all.free();
             verdict

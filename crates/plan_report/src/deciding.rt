@@ -1,16 +1,26 @@
 //! Decides how a call ends before anything is written.
-ghost use Rattle.std.specs.Prelude.{◌≡◌, ◌≤◌, map, string_bytes};
+ghost use Rattle.std.specs.Prelude.{◌≡◌, ◌≤◌, map, string_bytes, IfOk};
 ghost use Rattle.commands.specs.Commands.{Report, command_of as asked_command};
 ghost use Rattle.commands.specs.Procedures.{asked};
 ghost use Rattle.commands.specs.Decides.{Decides, Follows};
 ghost use Rattle.commands.specs.Ends.{IsCommand};
 ghost use Rattle.commands.specs.Loads.{LoadsGive};
+ghost use Rattle.report.specs.ReportText.{report_text};
 ghost use Rattle.plan_report.specs.Requests.{procedure_of};
 
-use commands::{Command, Status, Verdict, answered_with, bad_words, command_of, load_all};
-use outside::Shelf;
+use commands::{
+    Accepted, Command, Status, Verdict, answered_with, bad_words, command_of, load_all,
+};
+use outside::{NoMemory, Shelf};
 use report::print_report;
 use std::alloc::Global;
+
+/// The report of a plan that is accepted.
+fn text_of(alloc: Global, all: &Accepted) -> Result<Vec<u8>, NoMemory>
+    ensures { IfOk result (λ text. text.items ≡ report_text all.now.soc all.now.limits all.now.plan) }
+{
+    print_report(alloc, &all.soc, &all.limits, &all.plan)
+}
 
 /// `report SOC LIMITS PLAN`: the report of a plan that is accepted.
 fn decide_report<H: Shelf>(
@@ -28,10 +38,11 @@ fn decide_report<H: Shelf>(
         shelf.old result shelf.new }
 {
     match load_all(alloc, soc, limits, plan, shelf) {
-        Ok(all) => answered_with(
-            Status::Done,
-            print_report(alloc, &all.soc, &all.limits, &all.plan),
-        ),
+        Ok(all) => {
+            let text = text_of(alloc, &all);
+            all.free();
+            answered_with(Status::Done, text)
+        }
         Err(verdict) => verdict,
     }
 }

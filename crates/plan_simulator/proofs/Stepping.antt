@@ -1,6 +1,5 @@
 -- From one cycle of a plan's own run to the next.
-use Rattle.std.proofs.Common.{◌≡◌, ℕ, ◌+◌, Bool, false, List, refl, ap, sym, subst, ◌∙◌, arith, add-one}
-use Rattle.std.specs.Prelude.{slice_index_or}
+use Rattle.std.proofs.Common.{◌≡◌, ℕ, ◌+◌, Bool, false, List, refl, ap, sym, subst, ◌∙◌, arith, add-one, slice_index_or}
 use Rattle.std.proofs.lemmas.List.FromFn.{get_or-map-range_with_len}
 use Rattle.soc_model.specs.Chips.{SocValue}
 use Rattle.plan_model.specs.Bounds.{sum_below}

@@ -1,10 +1,5 @@
 //! Decides how a call ends before anything is written.
 ghost use Rattle.std.specs.Prelude.{◌≡◌, ◌≤◌, map, string_bytes, IfOk};
-ghost use Rattle.soc_model.specs.Chips.{soc_value};
-ghost use Rattle.soc_model.specs.SoundChips.{IsSoundChip};
-ghost use Rattle.plan_model.specs.Rules.{IsGoodAlone};
-ghost use Rattle.plan_model.specs.Views.{plan_value};
-ghost use Rattle.bit_machine.specs.Chips.{wires_of};
 ghost use Rattle.commands.specs.Commands.{Simulate, command_of as asked_command};
 ghost use Rattle.commands.specs.Procedures.{asked};
 ghost use Rattle.commands.specs.Decides.{Follows, Decides, GivesAny};
@@ -18,37 +13,39 @@ ghost use Rattle.tester_vectors.specs.VectorText.{too_many};
 use crate::lines::counts_line;
 use crate::running::run_plan;
 use commands::{
-    Command, Status, Verdict, answered_with, bad_words, command_of, load_all, refused_with,
-    run_line,
+    Accepted, Command, Status, Verdict, answered_with, bad_words, command_of, load_all,
+    refused_with, run_line,
 };
 use outside::{NoMemory, Shelf};
-use plan_model::{Plan, good_without_limits};
-use soc_model::Soc;
+use plan_model::good_without_limits;
 use std::alloc::Global;
 use tester_vectors::too_many_cells;
 
 /// The line of a run.
-fn text_of(alloc: Global, soc: &Soc, plan: &Plan, seed: u64) -> Result<Vec<u8>, NoMemory>
-    requires sound { IsSoundChip (soc_value soc.now) }
-    requires good { IsGoodAlone (soc_value soc.now) (plan_value plan.now) }
-    requires narrow { wires_of (plan_value plan.now) ≤ 256 }
-    ensures { IfOk result (λ text. text.items ≡ simulated_text (soc_value soc.now) (plan_value plan.now) seed) }
+fn text_of(alloc: Global, all: &Accepted, seed: u64) -> Result<Vec<u8>, NoMemory>
+    ensures { IfOk result (λ text. text.items ≡ simulated_text all.now.soc all.now.plan seed) }
 {
-    let chip = run_plan(alloc, soc, plan, seed)?;
+    good_without_limits();
+    let chip = run_plan(alloc, &all.soc, &all.plan, seed)?;
     counts_line(alloc, chip.report())
 }
 
-/// The answer of a run, or the refusal of one that is too long.
-fn simulated(alloc: Global, soc: &Soc, plan: &Plan, seed: u64) -> Verdict
-    requires sound { IsSoundChip (soc_value soc.now) }
-    requires good { IsGoodAlone (soc_value soc.now) (plan_value plan.now) }
-    requires narrow { wires_of (plan_value plan.now) ≤ 256 }
-    ensures { GivesAny (run_refusal (too_many (plan_value plan.now))) (λ text. text
-        ≡ simulated_text (soc_value soc.now) (plan_value plan.now) seed) result }
+/// The cells of a run that is too long to be stepped through. None comes exactly where the run is short enough.
+fn long_run(all: &Accepted) -> Option<u128>
+    ensures { result ≡ too_many all.now.plan }
 {
-    match too_many_cells(plan) {
+    good_without_limits();
+    too_many_cells(&all.plan)
+}
+
+/// The answer of a run, or the refusal of one that is too long.
+fn simulated(alloc: Global, all: &Accepted, seed: u64) -> Verdict
+    ensures { GivesAny (run_refusal (too_many all.now.plan)) (λ text. text
+        ≡ simulated_text all.now.soc all.now.plan seed) result }
+{
+    match long_run(all) {
         Some(cells) => refused_with(run_line(alloc, cells)),
-        None => answered_with(Status::Done, text_of(alloc, soc, plan, seed)),
+        None => answered_with(Status::Done, text_of(alloc, all, seed)),
     }
 }
 
@@ -70,8 +67,7 @@ fn decide_simulate<H: Shelf>(
 {
     match load_all(alloc, soc, limits, plan, shelf) {
         Ok(all) => {
-            good_without_limits();
-            let verdict = simulated(alloc, &all.soc, &all.plan, seed);
+            let verdict = simulated(alloc, &all, seed);
             all.free();
             verdict
         }

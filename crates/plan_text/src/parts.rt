@@ -39,7 +39,7 @@ pub enum Part {
     InWrapper(Wrapper),
     /// A wrapper and the word `Chain`: the chain's input cells come.
     WantsIns(Wrapper),
-    /// The same with input cells: its output cells come.
+    /// A wrapper and the input cells of a chain: its output cells come.
     WantsOuts {
         wrapper: Wrapper,
         ins: u64,
@@ -78,7 +78,7 @@ pub enum Part {
         cycles: u64,
         tests: Vec<TestId>,
     },
-    /// The same with the module of one more test: that test's number comes.
+    /// A chain of tests and the module of one more: that test's number comes.
     WantsTestOf {
         cycles: u64,
         tests: Vec<TestId>,

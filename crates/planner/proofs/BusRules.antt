@@ -1,7 +1,5 @@
 -- The buses of a sound architecture keep the rules of plans that speak of buses.
-use Rattle.std.proofs.Common.{◌≡◌, ℕ, ◌≤◌, ◌<◌, true, cond, nat_eq, Some, List, [], ◌∷◌, length, map, take, refl, ap, ◌∙◌, arith, eq-eqb}
-use Rattle.std.specs.Prelude.{slice_get, IsTrue}
-use Rattle.std.specs.List.{All, Contains, sum_by, flat_map}
+use Rattle.std.proofs.Common.{◌≡◌, ℕ, ◌≤◌, ◌<◌, true, cond, nat_eq, Some, List, [], ◌∷◌, length, map, take, refl, ap, ◌∙◌, arith, eq-eqb, slice_get, IsTrue, All, Contains, sum_by, flat_map}
 use Rattle.std.proofs.lemmas.Bool.{eqb-true}
 use Rattle.std.proofs.lemmas.List.{map-append, length-map}
 use Rattle.std.proofs.lemmas.List.Sums.{sum_by-cons, sum_by-append, sum_by_more_le}
@@ -16,12 +14,12 @@ use Rattle.plan_model.proofs.Lists.{from_flat_map, at_contains, any_from}
 use Rattle.plan_model.proofs.Sums.{item-le-sum_by, two-le-sum_by, some_passes}
 use Rattle.plan_model.proofs.PlannedTests.{of_first_is}
 use Rattle.width_table.specs.Tables.{TableValue, IsTable, places_of}
-use Rattle.bus_model.specs.Buses as arch
 use Rattle.bus_model.specs.Sound.{IsSoundArch, times_listed, times_on_buses, wires_used, due}
 use Rattle.bus_model.proofs.Times.{listed-in_range}
 use Rattle.planner.specs.Buses.{number_at, plan_bus, plan_buses}
 use Rattle.planner.specs.Wrapping.{bus_width}
 use Rattle.common_lemmas.proofs.Lists.{from_take, all_at, all_from, from_map, contains_at, sum_map}
+use Rattle.bus_model.specs.Buses as arch
 
 -- ---- the places on all buses, and the numbers at places
 

@@ -1,6 +1,5 @@
 -- The rules of wrappers look at buses and wrappers alone, so that they hold of those of a good plan, whatever its starts are.
-use Rattle.std.proofs.Common.{◌≡◌, List, map, sym, subst}
-use Rattle.std.specs.List.{Contains}
+use Rattle.std.proofs.Common.{◌≡◌, List, map, sym, subst, Contains}
 use Rattle.soc_model.specs.Chips.{SocValue}
 use Rattle.plan_model.specs.Plans.{LimitsValue, PlanValue, WrapperValue, BusValue}
 use Rattle.plan_model.specs.Rules.{Each, IsFitting, HasProperCells, pair_of, used_pairs, Wrappers, Proper, Keeps, IsGood}

@@ -1,8 +1,5 @@
 -- Places of lists.
-use Rattle.std.proofs.Common.{◌≡◌, ℕ, zero, suc, ◌<◌, Some, List, [], ◌∷◌, take, refl, ◌∙◌, arith}
-use Rattle.std.specs.Prelude.{slice_get}
-use Rattle.std.specs.List.{sum_by, count_by, flat_map}
-use Rattle.std.proofs.Common.{Bool, cond}
+use Rattle.std.proofs.Common.{◌≡◌, ℕ, zero, suc, ◌<◌, Some, List, [], ◌∷◌, take, refl, ◌∙◌, arith, slice_get, sum_by, count_by, flat_map, Bool, cond}
 use Rattle.std.proofs.lemmas.List.Sums.{sum_by-cons, sum_by-append}
 
 -- those that pass in joined lists

@@ -1,7 +1,5 @@
 -- Where the search isn't cut off by its budget, one plan alone is one of the planner.
-use Rattle.std.proofs.Common.{◌≡◌, inl, inr, ℕ, Bool, true, false, Option, None, Some, List, [], ◌∷◌, map, arith, refl, sym, ap, ◌∙◌}
-use Rattle.std.specs.Prelude.{slice_get, nat_lt}
-use Rattle.std.specs.List.{All}
+use Rattle.std.proofs.Common.{◌≡◌, inl, inr, ℕ, Bool, true, false, Option, None, Some, List, [], ◌∷◌, map, arith, refl, sym, ap, ◌∙◌, slice_get, nat_lt, All}
 use Rattle.std.proofs.lemmas.Bool.{cases_order, cases_Bool, ltb-true}
 use Rattle.std.proofs.lemmas.List.Elements.{All-head, All-tail}
 use Rattle.std.proofs.lemmas.Option.{slice_get-map}

@@ -1,7 +1,5 @@
 -- Settled buses with the wrappers of the width table keep the rules that speak of buses and wrappers alone.
-use Rattle.std.proofs.Common.{◌≡◌, ℕ, ◌<◌, Some, List, length, map, option_map, ap, ◌∙◌, sym, subst, arith, inl, inr}
-use Rattle.std.specs.Prelude.{slice_get}
-use Rattle.std.specs.List.{Contains, flat_map}
+use Rattle.std.proofs.Common.{◌≡◌, ℕ, ◌<◌, Some, List, length, map, option_map, ap, ◌∙◌, sym, subst, arith, inl, inr, slice_get, Contains, flat_map}
 use Rattle.std.proofs.lemmas.Option.{slice_get-map}
 use Rattle.soc_model.specs.Chips.{ModuleValue, numbers}
 use Rattle.plan_model.specs.Plans.{BusValue, WrapperValue, PlanValue, LimitsValue}

@@ -1,7 +1,5 @@
 -- What the list schedule of the order that was found gives a plan.
-use Rattle.std.proofs.Common.{◌≡◌, ℕ, ◌+◌, ◌<◌, ◌≤◌, ◌^◌, Bool, Some, List, [], ◌∷◌, ◌++◌, length, get_or, take, map, refl, sym, ◌∙◌, ap, arith}
-use Rattle.std.specs.Prelude.{slice_get}
-use Rattle.std.specs.List.{All}
+use Rattle.std.proofs.Common.{◌≡◌, ℕ, ◌+◌, ◌<◌, ◌≤◌, ◌^◌, Bool, Some, List, [], ◌∷◌, ◌++◌, length, get_or, take, map, refl, sym, ◌∙◌, ap, arith, slice_get, All}
 use Rattle.std.proofs.lemmas.List.{take_more, take-map, map-append, length-map}
 use Rattle.std.proofs.lemmas.Option.{slice_get-get_or, slice_get-map, get_or_from_slice_get}
 use Rattle.soc_model.specs.declared.TestId.{TestId}

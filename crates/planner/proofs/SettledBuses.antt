@@ -1,17 +1,16 @@
 -- The buses of the settled start, as they are made.
-use Rattle.std.proofs.Common.{◌≡◌, ℕ, ◌<◌, List, length, get_or, map, ap, ◌∙◌, sym, subst, arith}
-use Rattle.std.specs.List.{All}
+use Rattle.std.proofs.Common.{◌≡◌, ℕ, ◌<◌, List, length, get_or, map, ap, ◌∙◌, sym, subst, arith, All}
 use Rattle.soc_model.specs.Chips.{SocValue}
 use Rattle.plan_model.specs.Plans.{BusValue}
 use Rattle.width_table.specs.Tables.{TableValue, IsTable}
 use Rattle.bus_model.specs.declared.ArchBus.{ArchBus}
-use Rattle.bus_model.specs.Buses as arch
 use Rattle.bus_model.specs.Sound.{IsSoundArch}
 use Rattle.bus_model.specs.Start.{IsStart}
 use Rattle.bus_model.proofs.Views.{value_at, value_length}
 use Rattle.arch_settle.specs.Settling.{Settles}
 use Rattle.planner.specs.Buses.{plan_buses, AreSettledBuses}
 use Rattle.planner.proofs.BusRules.{buses_in_range}
+use Rattle.bus_model.specs.Buses as arch
 
 -- the places of a bus that was read
 pub bus_in_range : (buses : List ArchBus) (i : ℕ) (bus : ArchBus) (n : ℕ) → All (λ (b : arch.BusValue). All (λ p. p < n) b.places) (map arch.bus_value buses) → i < length buses → bus ≡ get_or buses i bus → All (λ p. p < n) bus.places.items

@@ -1,7 +1,5 @@
 -- The job of a sound chip under sound limits is sound.
-use Rattle.std.proofs.Common.{◌≡◌, inl, inr, ℕ, zero, suc, ◌+◌, ◌≤◌, ◌^◌, true, Some, None, Option, List, [], ◌∷◌, length, get_or, map, refl, subst, arith}
-use Rattle.std.specs.Prelude.{slice_get, IfSome, nat_le, slice_index_or}
-use Rattle.std.specs.List.{All, sum_by}
+use Rattle.std.proofs.Common.{◌≡◌, inl, inr, ℕ, zero, suc, ◌+◌, ◌≤◌, ◌^◌, true, Some, None, Option, List, [], ◌∷◌, length, get_or, map, refl, subst, arith, slice_get, IfSome, nat_le, slice_index_or, All, sum_by}
 use Rattle.std.proofs.lemmas.Bool.{cases_Bool, le-leb}
 use Rattle.std.proofs.lemmas.List.Sums.{sum_by-cons}
 use Rattle.std.proofs.lemmas.List.Elements.{All-nil, All-cons, All-contains}

@@ -1,7 +1,5 @@
 -- The modes that are used, and their wrappers, one after another.
-use Rattle.std.proofs.Common.{◌≡◌, ℕ, zero, suc, ◌+◌, ◌≤◌, ◌<◌, Bool, true, false, Some, List, [], ◌∷◌, ◌++◌, length, get_or, map, take, refl, ap, ◌∙◌, sym, subst, arith, inl, inr, append_assoc, append-nil}
-use Rattle.std.specs.Prelude.{slice_get, IfSome, ◌&&◌}
-use Rattle.std.specs.List.{All, flat_map}
+use Rattle.std.proofs.Common.{◌≡◌, ℕ, zero, suc, ◌+◌, ◌≤◌, ◌<◌, Bool, true, false, Some, List, [], ◌∷◌, ◌++◌, length, get_or, map, take, refl, ap, ◌∙◌, sym, subst, arith, inl, inr, append_assoc, append-nil, slice_get, IfSome, ◌&&◌, All, flat_map}
 use Rattle.std.proofs.lemmas.Bool.{cases_lt, and_parts}
 use Rattle.std.proofs.lemmas.List.{map-append, take_more, take_all}
 use Rattle.std.proofs.lemmas.List.Elements.{All-nil, All-push}
@@ -10,12 +8,10 @@ use Rattle.std.proofs.lemmas.Option.{get_or_from_slice_get, slice_get_within}
 use Rattle.soc_model.specs.declared.Test.{Test}
 use Rattle.soc_model.specs.Chips.{ModuleValue, SocValue, is_live}
 use Rattle.plan_model.specs.Plans.{BusValue, WrapperValue}
-use Rattle.soc_model.specs.Modes.{same_mode}
+use Rattle.soc_model.specs.Modes.{same_mode, uses_mode, has_tam}
 use Rattle.plan_model.specs.declared.Wrapper.{Wrapper}
 use Rattle.plan_model.specs.Views.{wrapper_value}
 use Rattle.plan_model.specs.Rules.{pair_of, used_pairs, mode_pair}
-use Rattle.soc_model.specs.Modes.{uses_mode}
-use Rattle.soc_model.specs.Modes.{has_tam}
 use Rattle.plan_model.proofs.Lists.{any_from}
 use Rattle.width_table.specs.Tables.{TableValue}
 use Rattle.wrapper_design.specs.Design.{mode_of, design}

@@ -1,7 +1,5 @@
 -- The wrappers of the width table keep the rules of plans on wrappers.
-use Rattle.std.proofs.Common.{◌≡◌, ℕ, suc, ◌+◌, ◌≤◌, ◌<◌, Bool, true, false, cond, nat_eq, Some, List, [], ◌∷◌, ◌++◌, length, get_or, map, option_map, take, refl, ap, ◌∙◌, sym, subst, arith, inl, inr, eq-eqb}
-use Rattle.std.specs.Prelude.{slice_get, slice_index, ◌&&◌, if◌then◌else◌}
-use Rattle.std.specs.List.{sum_by, count_by}
+use Rattle.std.proofs.Common.{◌≡◌, ℕ, suc, ◌+◌, ◌≤◌, ◌<◌, Bool, true, false, cond, nat_eq, Some, List, [], ◌∷◌, ◌++◌, length, get_or, map, option_map, take, refl, ap, ◌∙◌, sym, subst, arith, inl, inr, eq-eqb, slice_get, slice_index, ◌&&◌, if◌then◌else◌, sum_by, count_by}
 use Rattle.std.proofs.lemmas.Bool.{eqb-true, cases_Bool}
 use Rattle.std.proofs.lemmas.List.{take-map}
 use Rattle.std.proofs.lemmas.List.Sums.{sum_by-append}
@@ -10,9 +8,8 @@ use Rattle.soc_model.specs.Chips.{ModuleValue, SocValue, numbers}
 use Rattle.soc_model.specs.SoundChips.{AllDiffer}
 use Rattle.plan_model.specs.Cells.{ChainValue, IsProper}
 use Rattle.plan_model.specs.Plans.{BusValue, WrapperValue, PlanValue, has_module, widths, bus_place}
-use Rattle.soc_model.specs.Modes.{same_mode}
+use Rattle.soc_model.specs.Modes.{same_mode, uses_mode}
 use Rattle.plan_model.specs.Rules.{Each, IsNew, IsFitting, HasWrapper, HasProperCells, pair_of, used_pairs, mode_pair}
-use Rattle.soc_model.specs.Modes.{uses_mode}
 use Rattle.plan_model.proofs.Lists.{at_contains}
 use Rattle.plan_model.proofs.Sums.{sum_by-le_at, two-le-sum_by, at_most_one, one_if}
 use Rattle.wrapper_design.specs.Design.{mode_of, design}

@@ -5,6 +5,5 @@ pub mod Jobs
 pub mod Sharing
 pub mod Schedules
 pub mod Plans
-pub mod Problems
 pub mod Sources
 pub mod Wirings

@@ -4,8 +4,7 @@ use Rattle.std.specs.List.{All}
 use Rattle.soc_model.specs.Chips.{ModuleValue, SocValue}
 use Rattle.plan_model.specs.Plans.{BusValue, WrapperValue, of_first, has_module}
 use Rattle.plan_model.specs.Rules.{pair_of, used_pairs}
-use Rattle.soc_model.specs.Modes.{uses_mode}
-use Rattle.soc_model.specs.Modes.{has_tam}
+use Rattle.soc_model.specs.Modes.{uses_mode, has_tam}
 use Rattle.wrapper_design.specs.Design.{mode_of, design}
 use Rattle.width_table.specs.Times.{mode_time, IsChosen}
 use Rattle.width_table.specs.Tables.{TableValue}

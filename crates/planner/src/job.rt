@@ -18,7 +18,8 @@ ghost use Rattle.planner.specs.Sources.{chip_of, limits_of, plan_of, AreParts};
 
 use indexmap::IndexMap;
 use live_tests::{
-    ModeWrappers, Resolved, bus_over, bus_place, buses_by_module, profile_place, wrappers_by_mode,
+    ModeWrappers, Problem, Resolved, bus_over, bus_place, buses_by_module, profile_place,
+    wrappers_by_mode,
 };
 use outside::{NoMemory, copied, push};
 use plan_model::{Bus, Limits, Wrapper};
@@ -77,7 +78,7 @@ struct Parts<'a> {
 
 /// What the tests of a module share.
 #[derive(Clone, Copy, Drop)]
-struct Shared {
+struct ModulePlace {
     /// The place of the module in the chip.
     place: usize,
     /// The place of its parent.
@@ -89,7 +90,7 @@ struct Shared {
 }
 
 /// What the tests of the module at a place share.
-fn shared_of(parts: &Parts<'_>, place: usize, module: &Module) -> Shared
+fn shared_of(parts: &Parts<'_>, place: usize, module: &Module) -> ModulePlace
     requires parts { AreParts parts.now }
     requires module_there { slice_get (chip_of parts.now.source.now).modules place ≡ Some (module_value «module».now) }
     ensures place { result.place ≡ place }
@@ -99,7 +100,7 @@ fn shared_of(parts: &Parts<'_>, place: usize, module: &Module) -> Shared
     let scan = parts.wrappers.get(&(module.number, true)).copied();
     let terminals = parts.wrappers.get(&(module.number, false)).copied();
     let wrappers = ModeWrappers::found(source.soc, source.wrappers, place, module, scan, terminals);
-    Shared {
+    ModulePlace {
         place,
         parent: parts.resolved.parents[place],
         bus: bus_place(source.buses, &parts.buses, module.number),
@@ -111,7 +112,7 @@ fn shared_of(parts: &Parts<'_>, place: usize, module: &Module) -> Shared
 fn test_of(
     alloc: Global,
     parts: &Parts<'_>,
-    shared: &Shared,
+    shared: &ModulePlace,
     module: &Module,
     test: &Test,
 ) -> Result<JobTest, NoMemory>
@@ -208,11 +209,11 @@ pub fn job_of(alloc: Global, parts: &JobSource<'_>) -> Result<Job, NoMemory>
         IfOk result (λ job. IsSoundJob (job_value job)) }
 {
     let resolved = Resolved::new(alloc, parts.soc, parts.limits)?;
-    job_with(alloc, parts, &resolved)
+    job_resolved(alloc, parts, &resolved)
 }
 
-/// The same job, where the chip and its limits are resolved already.
-pub fn job_with(alloc: Global, parts: &JobSource<'_>, resolved: &Resolved) -> Result<Job, NoMemory>
+/// The same job, by what the chip and its limits say by places.
+fn job_resolved(alloc: Global, parts: &JobSource<'_>, resolved: &Resolved) -> Result<Job, NoMemory>
     requires sound { IsSoundChip (soc_value parts.now.soc.now) }
     requires wrapped { Keeps (soc_value parts.now.soc.now) (limits_value parts.now.limits.now)
         (settled_parts (map bus_value parts.now.buses.now) (map wrapper_value parts.now.wrappers.now)) Wrappers }
@@ -233,4 +234,30 @@ pub fn job_with(alloc: Global, parts: &JobSource<'_>, resolved: &Resolved) -> Re
     let job = job_at(alloc, &parts);
     drop(parts);
     job
+}
+
+/// The job of a problem's live tests, each with the cycles that it takes in the wrappers and the bus that it goes over. It is
+/// a sound job. `NoMemory` where there is none.
+pub fn job_with(
+    alloc: Global,
+    problem: &Problem<'_>,
+    buses: &[Bus],
+    wrappers: &[Wrapper],
+) -> Result<Job, NoMemory>
+    requires wrapped { Keeps problem.now.soc problem.now.limits
+        (settled_parts (map bus_value buses.now) (map wrapper_value wrappers.now)) Wrappers }
+    requires proper { Keeps problem.now.soc problem.now.limits
+        (settled_parts (map bus_value buses.now) (map wrapper_value wrappers.now)) Proper }
+    ensures job { IfOk result (λ job. job_value job ≡ the_job problem.now.soc problem.now.limits
+        (settled_parts (map bus_value buses.now) (map wrapper_value wrappers.now))) }
+    ensures sound { IfOk result (λ job. IsSoundJob (job_value job)) }
+{
+    let parts = JobSource {
+        soc: problem.soc,
+        limits: problem.limits,
+        buses,
+        wrappers,
+    };
+    let job = job_resolved(alloc, &parts, problem.resolved)?;
+    Ok(job)
 }

@@ -8,7 +8,6 @@
 mod buses;
 mod job;
 mod planning;
-mod problem;
 mod schedule;
 mod wiring;
 mod wrappers;

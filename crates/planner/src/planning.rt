@@ -9,19 +9,16 @@ ghost use Rattle.plan_model.specs.Runs.{Content};
 ghost use Rattle.plan_model.specs.Certificates.{IsElementary};
 ghost use Rattle.plan_model.specs.SoundLimits.{IsSoundLimits};
 ghost use Rattle.plan_model.specs.Views.{plan_value, limits_value};
-ghost use Rattle.live_tests.specs.Resolved.{IsResolved};
 ghost use Rattle.planner.specs.Buses.{table_of, AreSettledBuses};
 ghost use Rattle.planner.specs.Jobs.{job_of};
 ghost use Rattle.planner.specs.Plans.{IsPlanned, IsAnswer};
-ghost use Rattle.planner.specs.Problems.{chip_of, limits_of, IsProblem};
 ghost use Rattle.schedule_search.specs.Estimates.{IsEstimate};
 ghost use Rattle.schedule_search.specs.Walks.{HasMoreOpen};
 
-use crate::problem::Problem;
 use crate::schedule::schedule_of;
 use crate::wiring::wiring_of;
 use bound_certificate::best_bound_with;
-use live_tests::Resolved;
+use live_tests::{Problem, Resolved};
 use outside::NoMemory;
 use plan_model::{Limits, Plan, good_plans_run_right};
 use resource_table::Table;
@@ -61,45 +58,36 @@ where
         AreSettledBuses (table_of (soc_value soc.now) (limits_value limits.now)) buses → buses ≡ (plan_value plan).buses) }
 {
     let resolved = Resolved::new(alloc, soc, limits)?;
-    plan_with(alloc, soc, limits, &resolved, ahead)
+    let problem = Problem::new(soc, limits, &resolved);
+    plan_with(alloc, &problem, ahead)
 }
 
-/// The same plan, where the chip and its limits are resolved already.
+/// The same plan of a problem.
 pub fn plan_with<F: Fn(&Table<'_>, usize) -> u64>(
     alloc: Global,
-    soc: &Soc,
-    limits: &Limits,
-    resolved: &Resolved,
+    problem: &Problem<'_>,
     ahead: Ahead<F>,
 ) -> Result<Plan, NoMemory>
 where
     F: Drop,
-    requires sound { IsSoundChip (soc_value soc.now) }
-    requires limits { IsSoundLimits (soc_value soc.now) (limits_value limits.now) }
-    requires resolved { IsResolved (soc_value soc.now) limits.now resolved.now }
     requires estimate { IsEstimate (λ t test. F.pre ahead t test) (λ t test estimate. F.post ahead t test estimate) }
-    ensures planned { IfOk result (λ plan. IsPlanned (soc_value soc.now) (limits_value limits.now) (plan_value plan)) }
+    ensures planned { IfOk result (λ plan. IsPlanned problem.now.soc problem.now.limits (plan_value plan)) }
     ensures right { IfOk result (λ plan. (content : Content) →
-        IsRight (soc_value soc.now) (limits_value limits.now) (plan_value plan) content) }
-    ensures bound { IfOk result (λ plan. IsBound (soc_value soc.now) (limits_value limits.now) plan.bound.cycles) }
-    ensures elementary { IfOk result (λ plan. (n : ℕ) → IsElementary (soc_value soc.now) (limits_value limits.now) n →
+        IsRight problem.now.soc problem.now.limits (plan_value plan) content) }
+    ensures bound { IfOk result (λ plan. IsBound problem.now.soc problem.now.limits plan.bound.cycles) }
+    ensures elementary { IfOk result (λ plan. (n : ℕ) → IsElementary problem.now.soc problem.now.limits n →
         n ≤ plan.bound.cycles) }
-    ensures only_plan { IfOk result (λ plan. (HasMoreOpen (job_of (soc_value soc.now) (limits_value limits.now) (plan_value plan))
-        (limits_value limits.now).budget → ⊥) → (other : PlanValue) → IsPlanned (soc_value soc.now) (limits_value limits.now) other →
+    ensures only_plan { IfOk result (λ plan. (HasMoreOpen (job_of problem.now.soc problem.now.limits (plan_value plan))
+        problem.now.limits.budget → ⊥) → (other : PlanValue) → IsPlanned problem.now.soc problem.now.limits other →
         other ≡ plan_value plan) }
     ensures only_buses { IfOk result (λ plan. (buses : List BusValue) →
-        AreSettledBuses (table_of (soc_value soc.now) (limits_value limits.now)) buses → buses ≡ (plan_value plan).buses) }
+        AreSettledBuses (table_of problem.now.soc problem.now.limits) buses → buses ≡ (plan_value plan).buses) }
 {
-    let problem = Problem {
-        soc,
-        limits,
-        resolved,
-    };
-    let plan = planned(alloc, &problem, ahead)?;
+    let plan = planned(alloc, problem, ahead)?;
     Ok(plan)
 }
 
-/// A plan of a problem.
+/// A plan of a problem, with all that is known of it.
 fn planned<F: Fn(&Table<'_>, usize) -> u64>(
     alloc: Global,
     problem: &Problem<'_>,
@@ -107,20 +95,15 @@ fn planned<F: Fn(&Table<'_>, usize) -> u64>(
 ) -> Result<Plan, NoMemory>
 where
     F: Drop,
-    requires problem { IsProblem problem.now }
     requires estimate { IsEstimate (λ t test. F.pre ahead t test) (λ t test estimate. F.post ahead t test estimate) }
-    ensures { IfOk result (λ plan. IsAnswer (chip_of problem.now) (limits_of problem.now) (plan_value plan)) }
+    ensures { IfOk result (λ plan. IsAnswer problem.now.soc problem.now.limits (plan_value plan)) }
 {
+    // opened for what it keeps
+    let _ = &problem.soc;
     good_plans_run_right();
     let wiring = wiring_of(alloc, problem)?;
     let schedule = schedule_of(alloc, problem, &wiring, ahead)?;
-    let bound = best_bound_with(
-        alloc,
-        problem.soc,
-        problem.limits,
-        problem.resolved,
-        schedule.cycles,
-    )?;
+    let bound = best_bound_with(alloc, problem, schedule.cycles)?;
     Ok(Plan {
         buses: wiring.buses,
         wrappers: wiring.wrappers,

@@ -3,13 +3,12 @@ ghost use Rattle.std.specs.Prelude.{◌≡◌, ◌<◌, length, IfOk};
 ghost use Rattle.std.specs.List.{All};
 ghost use Rattle.resource_table.specs.Jobs.{job_value};
 ghost use Rattle.schedule_search.specs.Estimates.{IsEstimate};
-ghost use Rattle.planner.specs.Problems.{chip_of, limits_of, IsProblem};
 ghost use Rattle.planner.specs.Schedules.{AreStartsOf, IsFoundList};
 ghost use Rattle.planner.specs.Wirings.{IsWiring, IsScheduled};
 
-use crate::job::{JobSource, job_with};
-use crate::problem::Problem;
+use crate::job::job_with;
 use crate::wiring::Wiring;
+use live_tests::Problem;
 use outside::{NoMemory, push};
 use resource_table::{Job, Table};
 use schedule_search::{Ahead, Search};
@@ -71,18 +70,11 @@ pub(crate) fn schedule_of<F: Fn(&Table<'_>, usize) -> u64>(
 ) -> Result<Schedule, NoMemory>
 where
     F: Drop,
-    requires problem { IsProblem problem.now }
-    requires wiring { IsWiring (chip_of problem.now) (limits_of problem.now) wiring.now }
+    requires wiring { IsWiring problem.now.soc problem.now.limits wiring.now }
     requires estimate { IsEstimate (λ t test. F.pre ahead t test) (λ t test estimate. F.post ahead t test estimate) }
-    ensures { IfOk result (IsScheduled (chip_of problem.now) (limits_of problem.now) wiring.now) }
+    ensures { IfOk result (IsScheduled problem.now.soc problem.now.limits wiring.now) }
 {
-    let source = JobSource {
-        soc: problem.soc,
-        limits: problem.limits,
-        buses: &wiring.buses,
-        wrappers: &wiring.wrappers,
-    };
-    let job = job_with(alloc, &source, problem.resolved)?;
+    let job = job_with(alloc, problem, &wiring.buses, &wiring.wrappers)?;
     let mut search = Search::new(alloc, &job, problem.limits.budget, ahead)?;
     let schedule = found_schedule(alloc, &job, &mut search)?;
     Ok(schedule)

@@ -1,11 +1,10 @@
 //! The wiring of a plan: its buses, and the wrappers of the modules on them.
 ghost use Rattle.std.specs.Prelude.{IfOk};
-ghost use Rattle.planner.specs.Problems.{chip_of, limits_of, IsProblem};
 ghost use Rattle.planner.specs.Wirings.{IsWiring};
 
 use crate::buses::settled_buses;
-use crate::problem::Problem;
 use crate::wrappers::table_wrappers;
+use live_tests::Problem;
 use outside::NoMemory;
 use plan_model::{Bus, Wrapper};
 use std::alloc::Global;
@@ -20,8 +19,7 @@ pub(crate) struct Wiring {
 
 /// The buses of the settled start, with the wrappers of the width table at their widths.
 pub(crate) fn wiring_of(alloc: Global, problem: &Problem<'_>) -> Result<Wiring, NoMemory>
-    requires { IsProblem problem.now }
-    ensures { IfOk result (λ wiring. IsWiring (chip_of problem.now) (limits_of problem.now) wiring) }
+    ensures { IfOk result (λ wiring. IsWiring problem.now.soc problem.now.limits wiring) }
 {
     let table = WidthTable::new(alloc, problem.soc, problem.limits.wires)?;
     let buses = settled_buses(alloc, problem.soc, &table)?;

@@ -20,7 +20,7 @@ pub const PRICE_MOST: u64 = 999_999_999_999_999;
 pub enum TestList {
     /// Each of the tests excludes each other one, so that no two are ever active together.
     Turns { tests: Vec<TestId> },
-    /// The same, with every test over the wires of the bus of this rank that excludes each of them.
+    /// Tests of which each excludes each other one, with every test over the wires of the bus of this rank that excludes each of them.
     TurnsOn { rank: u64, tests: Vec<TestId> },
     /// At most `most` of the tests are active together: more would pass the limit of power.
     Crowd { most: u64, tests: Vec<TestId> },

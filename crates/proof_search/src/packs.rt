@@ -109,7 +109,7 @@ impl PackedCase {
         PackedCase::with_case(alloc, modules, case)
     }
 
-    /// The same with the case.
+    /// Room for the cases of a chip, with its first case.
     fn with_case(alloc: Global, modules: usize, case: PackCase) -> Result<PackedCase, NoMemory> {
         let prices = both(Prices::new(alloc, modules), filled(alloc, 0u128, modules));
         let others = both(Warm::new(alloc, modules), filled(alloc, NONE, LISTS_MOST));

@@ -1,10 +1,4 @@
 //! The search: the weakest case is divided next.
-ghost use Rattle.soc_model.specs.Chips.{soc_value};
-ghost use Rattle.soc_model.specs.SoundChips.{IsSoundChip};
-ghost use Rattle.plan_model.specs.Views.{limits_value};
-ghost use Rattle.plan_model.specs.SoundLimits.{IsSoundLimits};
-ghost use Rattle.live_tests.specs.Resolved.{IsResolved};
-
 use crate::divisions::Division;
 use crate::packs::NodePacks;
 use crate::queue::{NO_ENTRY, NodeEntry, NodeQueue};
@@ -13,11 +7,9 @@ use case_tables::{LISTS_MOST, RANKS_MOST};
 use case_tree::{CaseTree, NodeRule, ProofNames, TEXT_MOST, proof_of};
 use chip_tables::tables_of;
 use leaf_values::LeafBasis;
-use live_tests::Resolved;
+use live_tests::Problem;
 use outside::{NoMemory, both};
-use plan_model::Limits;
 use proof_model::Proof;
-use soc_model::Soc;
 use std::alloc::Global;
 use tables::{NONE, filled, item_or, put_item};
 
@@ -65,18 +57,8 @@ pub struct Search {
 }
 
 /// What all leaves ask of a chip.
-fn basis_of(
-    alloc: Global,
-    soc: &Soc,
-    limits: &Limits,
-    resolved: &Resolved,
-    goal: u64,
-) -> Result<LeafBasis, NoMemory>
-    requires sound { IsSoundChip (soc_value soc.now) }
-    requires limits { IsSoundLimits (soc_value soc.now) (limits_value limits.now) }
-    requires resolved { IsResolved (soc_value soc.now) limits.now resolved.now }
-{
-    let chip = tables_of(alloc, soc, limits, resolved, goal)?;
+fn basis_of(alloc: Global, problem: &Problem<'_>, goal: u64) -> Result<LeafBasis, NoMemory> {
+    let chip = tables_of(alloc, problem, goal)?;
     LeafBasis::new(alloc, chip)
 }
 
@@ -121,18 +103,12 @@ impl Search {
     /// where there is none.
     pub fn new(
         alloc: Global,
-        soc: &Soc,
-        limits: &Limits,
-        resolved: &Resolved,
+        problem: &Problem<'_>,
         goal: u64,
         nodes: u64,
         packs: bool,
-    ) -> Result<Search, NoMemory>
-        requires sound { IsSoundChip (soc_value soc.now) }
-        requires limits { IsSoundLimits (soc_value soc.now) (limits_value limits.now) }
-        requires resolved { IsResolved (soc_value soc.now) limits.now resolved.now }
-    {
-        let basis = basis_of(alloc, soc, limits, resolved, goal)?;
+    ) -> Result<Search, NoMemory> {
+        let basis = basis_of(alloc, problem, goal)?;
         let weighing = CaseWeighing::new(alloc, &basis.chip);
         let packs = packs_of(alloc, &basis, nodes, packs);
         let mut search = Search::with(alloc, basis, both(weighing, packs), nodes)?;

@@ -1,7 +1,5 @@
 -- The printed text of a proof says the proof.
-use Rattle.std.proofs.Common.{◌≡◌, ℕ, List, [], ◌∷◌, ◌++◌, map, decimal, Some, refl, sym, ◌∙◌, ap, arith, append_assoc}
-use Rattle.std.specs.Prelude.{Result, Ok, Err, OnOk}
-use Rattle.std.specs.List.{flat_map}
+use Rattle.std.proofs.Common.{◌≡◌, ℕ, List, [], ◌∷◌, ◌++◌, map, decimal, Some, refl, sym, ◌∙◌, ap, arith, append_assoc, Result, Ok, Err, OnOk, flat_map}
 use Rattle.keyword_text.specs.declared.tokens.Token.{Token}
 use Rattle.keyword_text.specs.declared.tokens.Token.TheVariants.{Key, Number}
 use Rattle.keyword_text.specs.Tokens.{token_of}
@@ -9,11 +7,11 @@ use Rattle.keyword_text.specs.Lines.{spaced, spaced_numbers, text_of}
 use Rattle.keyword_text.proofs.Listed.{text_append}
 use Rattle.keyword_text.proofs.Printed.{IsPrinted, are_printed, printed_lines}
 use Rattle.proof_text.specs.declared.tokens.Keyword.{Keyword}
-use Rattle.proof_text.specs.declared.tokens.Keyword.TheVariants as key
 use Rattle.proof_model.specs.Proofs.{WeightsValue, PricingValue, ProofValue}
 use Rattle.proof_text.specs.Tokens.{spelling, proof_lexicon}
 use Rattle.proof_text.specs.ProofLines.{list_line, use_tokens, weight_tokens, price_numbers, price_tokens, node_line, head_lines, proof_lines, proof_tokens, proof_text}
 use Rattle.proof_text.specs.TextLaws.{PrintedProofsAreRead}
+use Rattle.proof_text.specs.declared.tokens.Keyword.TheVariants as key
 
 -- ---- each keyword is a word, and read back
 

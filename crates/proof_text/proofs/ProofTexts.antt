@@ -1,12 +1,10 @@
 -- What a proof's text says is settled.
-use Rattle.std.proofs.Common.{◌⊎◌, inl, inr, ℕ, List, arith}
-use Rattle.std.specs.Prelude.{Result, Ok, Err}
+use Rattle.std.proofs.Common.{◌⊎◌, inl, inr, ℕ, List, arith, Result, Ok, Err}
 use Rattle.outside.specs.Words.{words_of}
 use Rattle.keyword_text.specs.Machines.{ReadsGrammar}
 use Rattle.keyword_text.specs.Reads.{IsReadText}
 use Rattle.keyword_text.proofs.Ranges.{spelled_small}
 use Rattle.keyword_text.proofs.EachText.{each_text}
-use Rattle.keyword_text.proofs.Settled as texts
 use Rattle.proof_model.specs.declared.Proof.{Proof}
 use Rattle.proof_text.specs.declared.ProofTextFault.{ProofTextFault}
 use Rattle.proof_text.specs.declared.ProofTextFault.TheVariants.{Text, NoMemory}
@@ -21,6 +19,7 @@ use Rattle.proof_text.proofs.SoundWords.{read_holds, proof_said}
 use Rattle.proof_text.proofs.CompleteWords.{proof_read}
 use Rattle.proof_text.proofs.EndableWords.{may_end}
 use Rattle.proof_text.proofs.PrintedProofs.{key_back, printed_is_read}
+use Rattle.keyword_text.proofs.Settled as texts
 
 -- what reads proofs reads their grammar
 pub reads_proofs : ReadsGrammar proof_grammar proof_machine

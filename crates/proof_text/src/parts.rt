@@ -52,7 +52,7 @@ pub enum Part {
         kind: ListKind,
         tests: Vec<TestId>,
     },
-    /// The same with the module of one more test: that test's number comes.
+    /// A list of tests and the module of one more: that test's number comes.
     WantsTest {
         kind: ListKind,
         tests: Vec<TestId>,

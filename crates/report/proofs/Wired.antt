@@ -1,7 +1,5 @@
 -- The lines of modules, one after another.
-use Rattle.std.proofs.Common.{◌≡◌, ℕ, zero, suc, ◌+◌, ◌≤◌, Bool, true, false, Some, List, [], ◌∷◌, ◌++◌, drop, refl, sym, ap, ◌∙◌, append_assoc, arith}
-use Rattle.std.specs.Prelude.{slice_get, slice_index, if◌then◌else◌}
-use Rattle.std.specs.List.{sum_by}
+use Rattle.std.proofs.Common.{◌≡◌, ℕ, zero, suc, ◌+◌, ◌≤◌, Bool, true, false, Some, List, [], ◌∷◌, ◌++◌, drop, refl, sym, ap, ◌∙◌, append_assoc, arith, slice_get, slice_index, if◌then◌else◌, sum_by}
 use Rattle.std.proofs.Math.Path.{fun_ext}
 use Rattle.soc_model.specs.Chips.{ModuleValue}
 use Rattle.soc_model.specs.Modes.{has_tam}

@@ -1,35 +1,19 @@
 -- The timelines of a table, as tests are placed and taken back, and what they say of where a test fits.
-use Rattle.std.proofs.Common.{◌≡◌, ◌⊎◌, ℕ, zero, suc, ◌+◌, ◌<◌, ◌≤◌, ◌^◌, inl, inr, Option, None, Some, Result, Ok, Err, List, [], ◌∷◌, ◌++◌, length, get_or, map, take, replicate, Bool, true, false, max, arith, refl, sym, ap, ◌∙◌, subst, length-append}
-use Rattle.std.specs.Prelude.{slice_get, nat_eq, nat_lt, nat_le, ◌&&◌, ◌||◌, if◌then◌else◌, IfSome, IfOk, vec_capacity}
-use Rattle.std.specs.List.{All, sum_by, remove}
-use Rattle.std.specs.List.Sorted.{IsNonDecreasingBy}
-use Rattle.std.specs.Global.{Vec}
+use Rattle.std.proofs.Common.{◌≡◌, ◌⊎◌, ℕ, zero, suc, ◌+◌, ◌<◌, ◌≤◌, ◌^◌, inl, inr, Option, None, Some, Result, Ok, Err, List, [], ◌∷◌, ◌++◌, length, get_or, map, take, replicate, Bool, true, false, max, arith, refl, sym, ap, ◌∙◌, subst, length-append, slice_get, nat_eq, nat_lt, nat_le, ◌&&◌, ◌||◌, if◌then◌else◌, IfSome, IfOk, vec_capacity}
+use Rattle.std.specs.{List.All, List.sum_by, List.remove, Global.Vec}
 use Rattle.std.proofs.lemmas.Bool.{cases_Bool, cases_lt, lt-ltb, le-ltb, ltb-false, lt-leb, le-leb, leb-false, eqb-true, eq-eqb, and_right, or_cases, or_left, or_right}
 use Rattle.std.proofs.lemmas.List.Sums.{sum_by-cons, sum_by_push, sum_by-insert, sum_by-remove, sum_by-le}
-use Rattle.std.proofs.lemmas.List.{length-take, length-map, length-replicate, get_or-replicate}
-use Rattle.std.proofs.lemmas.List.Sorted.{IsNonDecreasingBy-insert, IsNonDecreasingBy-short}
+use Rattle.std.proofs.lemmas.List.{length-take, length-map, length-replicate, get_or-replicate, Sorted.IsNonDecreasingBy-insert, Sorted.IsNonDecreasingBy-short}
 use Rattle.std.proofs.lemmas.Option.{slice_get_within, slice_get-get_or, get_or_from_slice_get}
 use Rattle.outside.specs.declared.NoMemory.{NoMemory}
-use Rattle.plan_model.specs.declared.TheConstants.{WIRES_MOST}
-use Rattle.plan_model.proofs.Sums.{sum_by-le_at}
-use Rattle.plan_model.proofs.Greatest.{le-greatest_at}
-use Rattle.resource_table.specs.declared.JobTest.{JobTest}
-use Rattle.resource_table.specs.declared.Placement.{Placement}
-use Rattle.resource_table.specs.declared.latest_ends.LatestEnds.{LatestEnds}
-use Rattle.resource_table.specs.declared.timelines.Kind.{Kind}
-use Rattle.resource_table.specs.declared.timelines.Kind.TheVariants.{Bus, Own, Children}
-use Rattle.resource_table.specs.declared.timelines.Span.{Span}
-use Rattle.resource_table.specs.declared.timelines.Timeline.{Timeline}
-use Rattle.resource_table.specs.declared.timelines.Timelines.{Timelines}
+use Rattle.plan_model.{specs.declared.TheConstants.WIRES_MOST, proofs.Sums.sum_by-le_at, proofs.Greatest.le-greatest_at}
+use Rattle.resource_table.specs.{declared.JobTest.JobTest, declared.Placement.Placement, declared.latest_ends.LatestEnds.LatestEnds, LatestEnds.AreLatestEnds}
+use Rattle.resource_table.specs.declared.timelines.Kind.{Kind, TheVariants.Bus, TheVariants.Own, TheVariants.Children}
+use Rattle.resource_table.specs.declared.timelines.{Span.Span, Timeline.Timeline, Timelines.Timelines}
 use Rattle.resource_table.specs.Jobs.{TestValue, JobValue, test_value, test_at, no_test, cycles_of}
 use Rattle.resource_table.specs.Schedules.{at_start, is_at, same_bus, exclude, end_of, last_end, MeetsNone, MayPlace, IsSoundTable}
-use Rattle.resource_table.specs.LatestEnds.{AreLatestEnds}
 use Rattle.resource_table.specs.BusyTimes.{IsClear, AreFree, IsPut, IsTaken, MayFill, ArePut, MayClear, AreTaken, timeline_of, is_alone, takes, room_of, least_of, span_of, part_in, IsTimeline, AreTimelines, AreTimes, IsFree, AreOrdered, MayAdd, IsAdded, MayRemove, IsRemoved, AreEmpty, AreEmptyTimes}
-use Rattle.resource_table.proofs.Placed.{sum_of_placed, sound_tests}
-use Rattle.resource_table.proofs.Spans.{ordered_remove}
-use Rattle.resource_table.proofs.Fitting.{lasts_at}
-use Rattle.resource_table.proofs.KeptTables.{sound_push, trail_has_room}
-use Rattle.resource_table.proofs.Latest.{latest_new, latest_more, latest_less}
+use Rattle.resource_table.proofs.{Placed.sum_of_placed, Placed.sound_tests, KeptTables.sound_push, KeptTables.trail_has_room, Spans.ordered_remove, Fitting.lasts_at, Profiles.sum_of_none, Latest.latest_new, Latest.latest_more, Latest.latest_less}
 use Rattle.common_lemmas.proofs.Tests.{both_true}
 use Rattle.common_lemmas.proofs.Lists.{sum_map, some_item, at_last, all_at, all_from, from_map}
 
@@ -45,10 +29,6 @@ none_of_sum f (y ∷ xs) none zero x at =
     let here : f y ≡ 0 = omega (arith, sum_by-cons f y xs, none) in
     ap f (sym same) ∙ here
 none_of_sum f (y ∷ xs) none (suc i) x at = none_of_sum f xs (omega (arith, sum_by-cons f y xs, none)) i x at
-
-sum_of_none : {X : Type 0} (f : X → ℕ) (xs : List X) → ((i : ℕ) (x : X) → slice_get xs i ≡ Some x → f x ≡ 0) → sum_by f xs ≡ 0
-sum_of_none f [] all = refl
-sum_of_none f (y ∷ xs) all = omega (arith, sum_by-cons f y xs, all 0 y refl, sum_of_none f xs (λ i x at. all (suc i) x at))
 
 none_one : (b : Bool) → (let n : ℕ = (if b then 1 else 0) in n) ≡ 0 → b ≡ false
 none_one true h = absurd (omega (arith, h))
@@ -88,32 +68,32 @@ takes_not o k no' is = let yes' = takes_from o k is in absurd cc
 abbrev meets : (length' start : ℕ) → Span → Bool
 meets length' start s = nat_lt start s.to && nat_lt s.from (start + length')
 
-clear_meets : (length' start : ℕ) (s : Span) → IsClear length' start s → meets length' start s ≡ false
-clear_meets length' start s (inl over) = let late : nat_lt start s.to ≡ false = le-ltb start s.to over in rw late refl
-clear_meets length' start s (inr early) = and_right (nat_lt start s.to) (nat_lt s.from (start + length')) (le-ltb s.from (start + length') early)
+module _ (length' start : ℕ) (s : Span) where
+  clear_meets : IsClear length' start s → meets length' start s ≡ false
+  clear_meets (inl over) = let late = le-ltb start s.to over in rw late refl
+  clear_meets (inr early) = and_right (nat_lt start s.to) (nat_lt s.from (start + length')) (le-ltb s.from (start + length') early)
 
-meets_clear : (length' start : ℕ) (s : Span) → meets length' start s ≡ false → IsClear length' start s
-meets_clear length' start s none = elim (cases_lt start s.to) [
-  | inr over ↦ inl over
-  | inl before ↦ elim (cases_lt s.from (start + length')) [
-    | inr early ↦ inr early
-    | inl late ↦ absurd (let a : nat_lt start s.to ≡ true = lt-ltb start s.to before in let b : nat_lt s.from (start + length') ≡ true = lt-ltb s.from (start + length') late in
-        let both : meets length' start s ≡ true = rw (a, b) refl in let never : (let t : Bool = true in t) ≡ false = sym both ∙ none in cc)
+  meets_clear : meets length' start s ≡ false → IsClear length' start s
+  meets_clear none = elim (cases_lt start s.to) [
+    | inr over ↦ inl over
+    | inl before ↦ elim (cases_lt s.from (start + length')) [
+      | inr early ↦ inr early
+      | inl late ↦ absurd (let a = lt-ltb start s.to before in let b = lt-ltb s.from (start + length') late in
+          let both : meets length' start s ≡ true = rw (a, b) refl in let never = sym both ∙ none in cc)
+    ]
   ]
-]
 
 abbrev same_span : Span → Span → Bool
 same_span a b = nat_eq a.from b.from && nat_eq a.to b.to
 
 same_span-self : (a : Span) → same_span a a ≡ true
 same_span-self a =
-    let f : nat_eq a.from a.from ≡ true = eq-eqb a.from a.from refl in
-    let t : nat_eq a.to a.to ≡ true = eq-eqb a.to a.to refl in rw (f, t) refl
+    let t = eq-eqb a.to a.to refl in rw (eq-eqb a.from a.from refl, t) refl
 
 same_span-is : (a b : Span) → same_span a b ≡ true → a ≡ b
 same_span-is a b h =
     let parts = both_true (nat_eq a.from b.from) (nat_eq a.to b.to) h in
-    ap (λ (v : ℕ). make v a.to) (eqb-true a.from b.from parts.0) ∙ ap (make b.from) (eqb-true a.to b.to parts.1)
+    ap (λ v. make v a.to) (eqb-true a.from b.from parts.0) ∙ ap (make b.from) (eqb-true a.to b.to parts.1)
   where
     make : ℕ → ℕ → Span
     make x y = record { from = x; to = y }
@@ -123,8 +103,7 @@ module _ (job : JobValue) (placed : List Placement) (kind : Kind) (k : ℕ) (spa
   spans_none : (bad : Span → Bool) → ((n : ℕ) (p : Placement) → slice_get placed n ≡ Some p → takes kind k (test_at job p.test) ≡ true → bad (span_of job p) ≡ false) →
       (i : ℕ) (s : Span) → slice_get spans i ≡ Some s → bad s ≡ false
   spans_none bad none i s at =
-      let whole : sum_by (part_in job kind k (one_if bad)) placed ≡ 0 = sum_of_none (part_in job kind k (one_if bad)) placed one in
-      none_one (bad s) (none_of_sum (one_if bad) spans (sums (one_if bad) ∙ whole) i s at)
+      none_one (bad s) (none_of_sum (one_if bad) spans (sums (one_if bad) ∙ sum_of_none (part_in job kind k (one_if bad)) placed one) i s at)
     where
       one : (n : ℕ) (p : Placement) → slice_get placed n ≡ Some p → part_in job kind k (one_if bad) p ≡ 0
       one n p at' = elim (cases_Bool (takes kind k (test_at job p.test))) [
@@ -136,101 +115,93 @@ module _ (job : JobValue) (placed : List Placement) (kind : Kind) (k : ℕ) (spa
   placed_none : (bad : Span → Bool) → ((i : ℕ) (s : Span) → slice_get spans i ≡ Some s → bad s ≡ false) →
       (n : ℕ) (p : Placement) → slice_get placed n ≡ Some p → takes kind k (test_at job p.test) ≡ true → bad (span_of job p) ≡ false
   placed_none bad none n p at yes' =
-      let whole : sum_by (one_if bad) spans ≡ 0 = sum_of_none (one_if bad) spans (λ i s at'. let no' : bad s ≡ false = none i s at' in rw no' refl) in
-      let part : part_in job kind k (one_if bad) p ≡ 0 = none_of_sum (part_in job kind k (one_if bad)) placed (sym (sums (one_if bad)) ∙ whole) n p at in
-      none_one (bad (span_of job p)) (subst (λ (b : Bool). (let n : ℕ = (if b then one_if bad (span_of job p) else 0) in n) ≡ 0) yes' part)
+      let whole = sum_of_none (one_if bad) spans (λ i s at'. let no' = none i s at' in rw no' refl) in
+      none_one (bad (span_of job p)) (rw yes' at (none_of_sum (part_in job kind k (one_if bad)) placed (sym (sums (one_if bad)) ∙ whole) n p at))
 
   -- the time of a placed test is there
   span_there : (n : ℕ) (p : Placement) → slice_get placed n ≡ Some p → takes kind k (test_at job p.test) ≡ true → (i : ℕ) × (slice_get spans i ≡ Some (span_of job p))
   span_there n p at yes' = elim (some_or_none (same_span (span_of job p)) spans) [
     | inl r ↦ (r.0, r.2 ∙ ap Some (sym (same_span-is (span_of job p) r.1 r.3)))
-    | inr none ↦ absurd (let no' = placed_none (same_span (span_of job p)) none n p at yes' in let self = same_span-self (span_of job p) in let never : (let t : Bool = true in t) ≡ false = sym self ∙ no' in cc)
+    | inr none ↦ absurd (let no' = placed_none (same_span (span_of job p)) none n p at yes' in let self = same_span-self (span_of job p) in let never = sym self ∙ no' in cc)
   ]
 
 -- ---- no times
 
+one_at_most : (b : Bool) → (if b then 1 else 0) ≤ 1
+one_at_most true = omega arith
+one_at_most false = omega arith
+
 -- a timeline has room for the tests that take it
-takers_have_room : (kind : Kind) (k : ℕ) (tests : List TestValue) → sum_by (λ (t : TestValue). if takes kind k t then 1 else 0) tests ≤ room_of kind k tests
+takers_have_room : (kind : Kind) (k : ℕ) (tests : List TestValue) → sum_by (λ t. if takes kind k t then 1 else 0) tests ≤ room_of kind k tests
 takers_have_room Bus k tests =
-    omega (arith, sum_by-le (λ (t : TestValue). if takes Bus k t then 1 else 0) 1 tests (λ j d lt. one_at_most (takes Bus k (get_or tests j d))))
-  where
-    one_at_most : (b : Bool) → (if b then 1 else 0) ≤ 1
-    one_at_most true = omega arith
-    one_at_most false = omega arith
+    omega (arith, sum_by-le (λ t. if takes Bus k t then 1 else 0) 1 tests (λ j d lt. one_at_most (takes Bus k (get_or tests j d))))
 takers_have_room Own k tests = omega arith
 takers_have_room Children k tests = omega arith
 
-room_of_takers : (kind : Kind) → least_of kind ≡ 0 → (k : ℕ) (tests : List TestValue) → room_of kind k tests ≡ sum_by (λ (t : TestValue). if takes kind k t then 1 else 0) tests
+room_of_takers : (kind : Kind) → least_of kind ≡ 0 → (k : ℕ) (tests : List TestValue) → room_of kind k tests ≡ sum_by (λ t. if takes kind k t then 1 else 0) tests
 room_of_takers Bus none k tests = absurd (omega (arith, none))
 room_of_takers Own none k tests = refl
 room_of_takers Children none k tests = refl
 
+-- timelines with the room that was asked for
+empty_lines : (kind : Kind) (tests : List JobTest) (count : ℕ) (rooms : List ℕ) (result : Result (Vec Timeline) NoMemory) →
+    All (λ (t : JobTest). IfSome (timeline_of kind (test_value t)) (λ k. k < count)) tests → count ≤ length rooms → least_of kind ≤ length rooms →
+    ((k : ℕ) → k < length rooms → room_of kind k (map test_value tests) ≤ get_or rooms k 0) → IfOk result (λ lines. length lines.items ≡ length rooms) →
+    IfOk result (λ lines. (k : ℕ) (line : Timeline) → slice_get lines.items k ≡ Some line → line.spans.items ≡ []) →
+    IfOk result (λ lines. (k : ℕ) (line : Timeline) → slice_get lines.items k ≡ Some line → get_or rooms k 0 ≤ vec_capacity line.spans) →
+    IfOk result (λ lines. AreEmpty kind (map test_value tests) lines.items)
+empty_lines kind tests count rooms (Err e) reach more least fit long empty room = tt
+empty_lines kind tests count rooms (Ok lines) reach more least fit long empty room = record {
+  many = omega (arith, long, least);
+  reach = all_from (λ (t : TestValue). IfSome (timeline_of kind t) (λ k. k < length lines.items)) (map test_value tests) (λ i t at.
+      let r = from_map test_value tests i t at in
+      within (timeline_of kind t) (rw r.2 at (all_at (λ (u : JobTest). IfSome (timeline_of kind (test_value u)) (λ k. k < count)) tests i r.0 reach r.1)));
+  empty = empty;
+  room = (λ k line at. omega (arith, room k line at, fit k (omega (arith, slice_get_within lines.items k line at, long))));
+}
+  where
+    within : (o : Option ℕ) → IfSome o (λ k. k < count) → IfSome o (λ k. k < length lines.items)
+    within None h = tt
+    within (Some k) h = omega (arith, h, more, long)
+
 pub empty_bus_lines : (tests : List JobTest) (count many : ℕ) (rooms : List ℕ) (result : Result (Vec Timeline) NoMemory) →
-    All (λ (t : JobTest). IfSome (timeline_of Bus (test_value t)) (λ k. k < count)) tests → count ≤ many → WIRES_MOST ≤ many → rooms ≡ replicate many (length tests) → IfOk result (λ lines. length lines.items ≡ length rooms) →
+    All (λ (t : JobTest). IfSome (timeline_of Bus (test_value t)) (λ k. k < count)) tests → count ≤ many → WIRES_MOST ≤ many → rooms ≡ replicate many (length tests) →
+    IfOk result (λ lines. length lines.items ≡ length rooms) →
     IfOk result (λ lines. (k : ℕ) (line : Timeline) → slice_get lines.items k ≡ Some line → line.spans.items ≡ []) →
     IfOk result (λ lines. (k : ℕ) (line : Timeline) → slice_get lines.items k ≡ Some line → get_or rooms k 0 ≤ vec_capacity line.spans) →
     IfOk result (λ lines. AreEmpty Bus (map test_value tests) lines.items)
-empty_bus_lines tests count many rooms (Err e) reach more all is lines_long empty room = tt
-empty_bus_lines tests count many rooms (Ok lines) reach more all is lines_long empty room = record {
-  many = omega (arith, rooms_long, lines_long, all);
-  reach = all_from (λ (t : TestValue). IfSome (timeline_of Bus t) (λ k. k < length lines.items)) (map test_value tests) (λ i t at.
-      let r = from_map test_value tests i t at in
-      within (timeline_of Bus t) (subst (λ (v : TestValue). IfSome (timeline_of Bus v) (λ k. k < count)) r.2 (all_at (λ (u : JobTest). IfSome (timeline_of Bus (test_value u)) (λ k. k < count)) tests i r.0 reach r.1)));
-  empty = empty;
-  room = (λ k line at.
-      let lt : k < length lines.items = slice_get_within lines.items k line at in
-      omega (arith, room k line at, ap (λ (v : List ℕ). get_or v k 0) is, get_or-replicate many k (length tests) 0 (omega (arith, lt, lines_long, rooms_long)), length-map tests test_value));
-}
-  where
-    rooms_long : length rooms ≡ many
-    rooms_long = ap length is ∙ length-replicate many (length tests)
-
-    within : (o : Option ℕ) → IfSome o (λ k. k < count) → IfSome o (λ k. k < length lines.items)
-    within None h = tt
-    within (Some k) h = omega (arith, h, more, lines_long, rooms_long)
+empty_bus_lines tests count many rooms result reach more all is =
+    let long = ap length is ∙ length-replicate many (length tests) in
+    empty_lines Bus tests count rooms result reach (omega (arith, long, more)) (omega (arith, long, all))
+    (λ k lt. omega (arith, ap (λ v. get_or v k 0) is, get_or-replicate many k (length tests) 0 (omega (arith, lt, long)), length-map tests test_value))
 
 pub empty_kind : (kind : Kind) (tests : List JobTest) (count : ℕ) (counts rooms : List ℕ) (result : Result (Vec Timeline) NoMemory) → least_of kind ≡ 0 →
-    All (λ (t : JobTest). IfSome (timeline_of kind (test_value t)) (λ k. k < count)) tests → length counts ≡ count → ((k : ℕ) → k < count → get_or counts k 0 ≡ sum_by (λ (t : JobTest). if takes kind k (test_value t) then 1 else 0) tests) →
+    All (λ (t : JobTest). IfSome (timeline_of kind (test_value t)) (λ k. k < count)) tests → length counts ≡ count →
+    ((k : ℕ) → k < count → get_or counts k 0 ≡ sum_by (λ (t : JobTest). if takes kind k (test_value t) then 1 else 0) tests) →
     rooms ≡ counts → IfOk result (λ lines. length lines.items ≡ length rooms) →
     IfOk result (λ lines. (k : ℕ) (line : Timeline) → slice_get lines.items k ≡ Some line → line.spans.items ≡ []) →
     IfOk result (λ lines. (k : ℕ) (line : Timeline) → slice_get lines.items k ≡ Some line → get_or rooms k 0 ≤ vec_capacity line.spans) →
     IfOk result (λ lines. AreEmpty kind (map test_value tests) lines.items)
-empty_kind kind tests count counts rooms (Err e) least reach long are same lines_long empty room = tt
-empty_kind kind tests count counts rooms (Ok lines) least reach long are same lines_long empty room = record {
-  many = omega (arith, least);
-  reach = all_from (λ (t : TestValue). IfSome (timeline_of kind t) (λ k. k < length lines.items)) (map test_value tests) (λ i t at.
-      let r = from_map test_value tests i t at in
-      within (timeline_of kind t) (subst (λ (v : TestValue). IfSome (timeline_of kind v) (λ k. k < count)) r.2 (all_at (λ (u : JobTest). IfSome (timeline_of kind (test_value u)) (λ k. k < count)) tests i r.0 reach r.1)));
-  empty = empty;
-  room = (λ k line at.
-      let lt : k < length lines.items = slice_get_within lines.items k line at in
-      let same_long = ap length same in
-      omega (arith, room k line at, are k (omega arith), ap (λ (v : List ℕ). get_or v k 0) same, sum_map (λ (t : TestValue). if takes kind k t then 1 else 0) test_value tests, room_of_takers kind least k (map test_value tests)));
-}
-  where
-    within : (o : Option ℕ) → IfSome o (λ k. k < count) → IfSome o (λ k. k < length lines.items)
-    within None h = tt
-    within (Some k) h = let same_long = ap length same in omega (arith, h)
+empty_kind kind tests count counts rooms result least reach long are same =
+    let same_long = ap length same in
+    empty_lines kind tests count rooms result reach (omega arith) (omega (arith, least))
+    (λ k lt. omega (arith, are k (omega arith), ap (λ v. get_or v k 0) same, sum_map (λ (t : TestValue). if takes kind k t then 1 else 0) test_value tests, room_of_takers kind least k (map test_value tests)))
 
 -- the counts of tests are small
 pub few_takers : (o : Option ℕ) (counts : List ℕ) (kind : Kind) (tests : List JobTest) (i : ℕ) → i + 1 < 2 ^ 64 → IfSome o (λ k. k < length counts) →
-    ((k : ℕ) → k < length counts → get_or counts k 0 ≡ sum_by (λ (t : JobTest). if takes kind k (test_value t) then 1 else 0) (take i tests)) → IfSome o (λ k. get_or counts k 0 + 1 < 2 ^ 64)
+    ((k : ℕ) → k < length counts → get_or counts k 0 ≡ sum_by (λ t. if takes kind k (test_value t) then 1 else 0) (take i tests)) → IfSome o (λ k. get_or counts k 0 + 1 < 2 ^ 64)
 few_takers None counts kind tests i small inside are = tt
 few_takers (Some k) counts kind tests i small inside are =
-    let few = sum_by-le (λ (t : JobTest). if takes kind k (test_value t) then 1 else 0) 1 (take i tests) (λ j d lt. one_at_most (takes kind k (test_value (get_or (take i tests) j d)))) in
+    let few = sum_by-le (λ t. if takes kind k (test_value t) then 1 else 0) 1 (take i tests) (λ j d lt. one_at_most (takes kind k (test_value (get_or (take i tests) j d)))) in
     omega (arith, are k inside, few, length-take i tests)
-  where
-    one_at_most : (b : Bool) → (if b then 1 else 0) ≤ 1
-    one_at_most true = omega arith
-    one_at_most false = omega arith
 
 new_kind : (kind : Kind) (job : JobValue) (lines : List Timeline) → AreEmpty kind job.tests lines → AreTimelines job [] kind lines
 new_kind kind job lines are = record {
   many = are.many;
-  reach = (λ test k inside is. subst (λ (o : Option ℕ). IfSome o (λ k. k < length lines)) is (are.reach test no_test inside));
+  reach = (λ test k inside is. rw is at (are.reach test no_test inside));
   each = (λ k line at. record {
-    starts = subst (IsNonDecreasingBy (λ (s : Span). s.from)) (sym (are.empty k line at)) (IsNonDecreasingBy-short (λ (s : Span). s.from) [] (omega arith));
-    ends = (λ alone. subst (IsNonDecreasingBy (λ (s : Span). s.to)) (sym (are.empty k line at)) (IsNonDecreasingBy-short (λ (s : Span). s.to) [] (omega arith)));
+    starts = rw (are.empty k line at) (IsNonDecreasingBy-short (λ (s : Span). s.from) [] (omega arith));
+    ends = (λ alone. rw (are.empty k line at) (IsNonDecreasingBy-short (λ (s : Span). s.to) [] (omega arith)));
     sums = (λ f. ap (sum_by f) (are.empty k line at));
     room = are.room k line at;
   });
@@ -246,22 +217,23 @@ times_new job times are = record {
 
 -- ---- tests that exclude each other
 
-over_one_bus : (t u : TestValue) (k : ℕ) → t.bus ≡ Some k → u.bus ≡ Some k → exclude t u ≡ true
-over_one_bus t u k a b =
-    let same : same_bus t.bus u.bus ≡ true = rw (a, b) (eq-eqb k k refl) in
-    or_left (same_bus t.bus u.bus || nat_eq t.place u.place) (is_at t.parent u.place || is_at u.parent t.place) (or_left (same_bus t.bus u.bus) (nat_eq t.place u.place) same)
+module _ (t u : TestValue) where
+  over_one_bus : (k : ℕ) → t.bus ≡ Some k → u.bus ≡ Some k → exclude t u ≡ true
+  over_one_bus k a b =
+      let same : same_bus t.bus u.bus ≡ true = rw (a, b) (eq-eqb k k refl) in
+      or_left (same_bus t.bus u.bus || nat_eq t.place u.place) (is_at t.parent u.place || is_at u.parent t.place) (or_left (same_bus t.bus u.bus) (nat_eq t.place u.place) same)
 
-of_one_module : (t u : TestValue) → t.place ≡ u.place → exclude t u ≡ true
-of_one_module t u same =
-    or_left (same_bus t.bus u.bus || nat_eq t.place u.place) (is_at t.parent u.place || is_at u.parent t.place) (or_right (same_bus t.bus u.bus) (nat_eq t.place u.place) (eq-eqb t.place u.place same))
+  of_one_module : t.place ≡ u.place → exclude t u ≡ true
+  of_one_module same =
+      or_left (same_bus t.bus u.bus || nat_eq t.place u.place) (is_at t.parent u.place || is_at u.parent t.place) (or_right (same_bus t.bus u.bus) (nat_eq t.place u.place) (eq-eqb t.place u.place same))
 
-of_a_child : (t u : TestValue) → t.parent ≡ Some u.place → exclude t u ≡ true
-of_a_child t u is =
-    or_right (same_bus t.bus u.bus || nat_eq t.place u.place) (is_at t.parent u.place || is_at u.parent t.place) (or_left (is_at t.parent u.place) (is_at u.parent t.place) (takes_from t.parent u.place is))
+  of_a_child : t.parent ≡ Some u.place → exclude t u ≡ true
+  of_a_child is =
+      or_right (same_bus t.bus u.bus || nat_eq t.place u.place) (is_at t.parent u.place || is_at u.parent t.place) (or_left (is_at t.parent u.place) (is_at u.parent t.place) (takes_from t.parent u.place is))
 
-of_the_parent : (t u : TestValue) → u.parent ≡ Some t.place → exclude t u ≡ true
-of_the_parent t u is =
-    or_right (same_bus t.bus u.bus || nat_eq t.place u.place) (is_at t.parent u.place || is_at u.parent t.place) (or_right (is_at t.parent u.place) (is_at u.parent t.place) (takes_from u.parent t.place is))
+  of_the_parent : u.parent ≡ Some t.place → exclude t u ≡ true
+  of_the_parent is =
+      or_right (same_bus t.bus u.bus || nat_eq t.place u.place) (is_at t.parent u.place || is_at u.parent t.place) (or_right (is_at t.parent u.place) (is_at u.parent t.place) (takes_from u.parent t.place is))
 
 same_bus-is : (a b : Option ℕ) → same_bus a b ≡ true → (k : ℕ) × (a ≡ Some k) × (b ≡ Some k)
 same_bus-is None b h = absurd cc
@@ -308,8 +280,7 @@ module _ (job : JobValue) (placed : List Placement) (sound : IsSoundTable (recor
       | inr late ↦ inr late
       | inl meet ↦
           let lasts' = lasts_of n p at in
-          let c : ℕ = max p.start start in
-          absurd (meets n p c at clash (omega arith, omega arith) (omega arith, omega arith))
+          absurd (meets n p (max p.start start) at clash (omega arith, omega arith) (omega arith, omega arith))
     ]
   ]
 
@@ -323,8 +294,7 @@ module _ (job : JobValue) (placed : List Placement) (sound : IsSoundTable (recor
   apart_line : (kind : Kind) (lines : List Timeline) → AreTimelines job placed kind lines → (place : Option ℕ) (k test start : ℕ) → place ≡ Some k → AreFree lines place (cycles_of job test) start →
       (n : ℕ) (p : Placement) → slice_get placed n ≡ Some p → timeline_of kind (test_at job p.test) ≡ Some k → IsClear (cycles_of job test) start (span_of job p)
   apart_line kind lines are place k test start is free n p at takes' =
-      let lt = are.reach p.test k (sound.placed n p at).in_job takes' in
-      let r = some_item lines k lt in
+      let r = some_item lines k (are.reach p.test k (sound.placed n p at).in_job takes') in
       let line = are.each k r.0 r.1 in
       meets_clear (cycles_of job test) start (span_of job p) (placed_none job placed kind k r.0.spans.items line.sums (λ (s : Span). nat_lt start s.to && nat_lt s.from (start + cycles_of job test))
       (λ i s at'. clear_meets (cycles_of job test) start s (all_at (IsClear (cycles_of job test) start) r.0.spans.items i s (free k r.0 is r.1) at')) n p at (takes_from (timeline_of kind (test_at job p.test)) k takes'))
@@ -369,9 +339,9 @@ module _ (job : JobValue) (placed : List Placement) (sound : IsSoundTable (recor
 -- ---- one test more
 
 -- a sum of ones counts
-ones : {X : Type 0} (xs : List X) → sum_by (λ (x : X). 1) xs ≡ length xs
+ones : {X : Type 0} (xs : List X) → sum_by (λ x. 1) xs ≡ length xs
 ones [] = refl
-ones {X} (x ∷ xs) = omega (arith, sum_by-cons (λ (x : X). 1) x xs, ones xs)
+ones {X} (x ∷ xs) = omega (arith, sum_by-cons (λ x. 1) x xs, ones xs)
 
 -- the placed tests that take a timeline are no more than the job's tests that do
 takers : (job : JobValue) (placed : List Placement) → IsSoundTable (record { job = job; placed = placed }) → (kind : Kind) (k : ℕ) →
@@ -414,12 +384,12 @@ module _ (job : JobValue) (placed : List Placement) (kind : Kind) (k : ℕ) (p :
       (is_alone kind ≡ true → All (IsClear (cycles_of job p.test) p.start) old.spans.items) → IsPut (span_of job p) old.spans.items new.spans.items → vec_capacity new.spans ≡ vec_capacity old.spans →
       IsTimeline job (placed ++ p ∷ []) kind k new
   line_more old new was yes' lasts last clear put room = record {
-    starts = subst (IsNonDecreasingBy (λ (s : Span). s.from)) (sym put.is) (IsNonDecreasingBy-insert (λ (s : Span). s.from) old.spans.items put.place (span_of job p) was.starts put.inside
+    starts = rw put.is (IsNonDecreasingBy-insert (λ (s : Span). s.from) old.spans.items put.place (span_of job p) was.starts put.inside
         (λ i d lt. omega (arith, put.before i d (omega arith) lt)) (λ i d le lt. put.after i d le lt));
-    ends = (λ alone. subst (IsNonDecreasingBy (λ (s : Span). s.to)) (sym put.is) (IsNonDecreasingBy-insert (λ (s : Span). s.to) old.spans.items put.place (span_of job p) (was.ends alone) put.inside
+    ends = (λ alone. rw put.is (IsNonDecreasingBy-insert (λ (s : Span). s.to) old.spans.items put.place (span_of job p) (was.ends alone) put.inside
         (λ i d lt. let inside = put.inside in elim (clear alone i d (omega arith)) [ inl over ↦ omega arith | inr early ↦ absurd (omega (arith, put.before i d (omega arith) lt)) ])
         (λ i d le lt. elim (clear alone i d lt) [ inl over ↦ absurd (omega (arith, put.after i d le lt, last i (get_or old.spans.items i d) (slice_get-get_or old.spans.items i d lt))) | inr early ↦ omega (arith, last i (get_or old.spans.items i d) (slice_get-get_or old.spans.items i d lt)) ])));
-    sums = (λ f. ap (sum_by f) put.is ∙ sum_by-insert f old.spans.items put.place (span_of job p) ∙ ap (λ (n : ℕ). n + f (span_of job p)) (was.sums f) ∙ sym (more_yes yes' f));
+    sums = (λ f. ap (sum_by f) put.is ∙ sum_by-insert f old.spans.items put.place (span_of job p) ∙ ap (λ n. n + f (span_of job p)) (was.sums f) ∙ sym (more_yes yes' f));
     room = omega (arith, was.room, room);
   }
 
@@ -434,16 +404,16 @@ module _ (job : JobValue) (placed : List Placement) (kind : Kind) (k : ℕ) (p :
   line_less : (old new : Timeline) → IsTimeline job (placed ++ p ∷ []) kind k old → takes kind k (test_at job p.test) ≡ true → IsTaken (span_of job p) old.spans.items new.spans.items → vec_capacity new.spans ≡ vec_capacity old.spans →
       IsTimeline job placed kind k new
   line_less old new was yes' taken room =
-      let lt : taken.place < length old.spans.items = slice_get_within old.spans.items taken.place (span_of job p) taken.there in record {
-        starts = subst (IsNonDecreasingBy (λ (s : Span). s.from)) (sym taken.is) (ordered_remove (λ (s : Span). s.from) old.spans.items taken.place was.starts lt);
-        ends = (λ alone. subst (IsNonDecreasingBy (λ (s : Span). s.to)) (sym taken.is) (ordered_remove (λ (s : Span). s.to) old.spans.items taken.place (was.ends alone) lt));
+      let lt = slice_get_within old.spans.items taken.place (span_of job p) taken.there in record {
+        starts = rw taken.is (ordered_remove (λ (s : Span). s.from) old.spans.items taken.place was.starts lt);
+        ends = (λ alone. rw taken.is (ordered_remove (λ (s : Span). s.to) old.spans.items taken.place (was.ends alone) lt));
         sums = (λ f. ap (sum_by f) taken.is ∙ less f lt);
         room = omega (arith, was.room, room);
       }
     where
       less : (f : Span → ℕ) → taken.place < length old.spans.items → sum_by f (remove old.spans.items taken.place) ≡ sum_by (part_in job kind k f) placed
       less f lt =
-          let gone : f (get_or old.spans.items taken.place (span_of job p)) ≡ f (span_of job p) = ap f (get_or_from_slice_get old.spans.items taken.place (span_of job p) (span_of job p) taken.there) in
+          let gone = ap f (get_or_from_slice_get old.spans.items taken.place (span_of job p) (span_of job p) taken.there) in
           omega (arith, sum_by-remove f old.spans.items taken.place (span_of job p) lt, gone, was.sums f, more_yes yes' f)
 
   line_left : (line : Timeline) → IsTimeline job (placed ++ p ∷ []) kind k line → takes kind k (test_at job p.test) ≡ false → IsTimeline job placed kind k line
@@ -478,7 +448,7 @@ module _ (job : JobValue) (placed : List Placement) (sound : IsSoundTable (recor
     bus = room_in Bus times.buses.items are.buses;
     own = room_in Own times.modules.items are.modules;
     parent = room_in Children times.children.items are.children;
-    latest = subst (λ (m : ℕ). IfSome (test_at job test).parent (λ k. k < m)) (sym are.latest.long) (room_in Children times.children.items are.children).inside;
+    latest = rw are.latest.long (room_in Children times.children.items are.children).inside;
     room = omega (arith, are.latest.levels, are.latest.room, trail_has_room job placed test start sound may);
   }
 
@@ -505,8 +475,7 @@ module _ (job : JobValue) (placed : List Placement) (sound : IsSoundTable (recor
     buses = lines_more Bus old.buses.items new.buses.items are.buses added.bus;
     modules = lines_more Own old.modules.items new.modules.items are.modules added.own;
     children = lines_more Children old.children.items new.children.items are.children added.parent;
-    latest = subst (λ (m : ℕ). AreLatestEnds job (placed ++ at_start test start ∷ []) m new.latest) (sym added.parent.long)
-        (latest_more job placed (at_start test start) (length old.children.items) old.latest new.latest are.latest (room_in Children old.children.items are.children).inside added.latest);
+    latest = rw added.parent.long (latest_more job placed (at_start test start) (length old.children.items) old.latest new.latest are.latest (room_in Children old.children.items are.children).inside added.latest);
   }
 
 -- ---- one test less
@@ -528,7 +497,7 @@ module _ (job : JobValue) (placed : List Placement) (p : Placement) (inside : p.
     bus = there_in Bus times.buses.items are.buses;
     own = there_in Own times.modules.items are.modules;
     parent = there_in Children times.children.items are.children;
-    latest = subst (λ (m : ℕ). IfSome (test_at job p.test).parent (λ k. k < m)) (sym are.latest.long) (there_in Children times.children.items are.children).inside;
+    latest = rw are.latest.long (there_in Children times.children.items are.children).inside;
     some = omega (arith, are.latest.levels, length-append placed (p ∷ []));
   }
 
@@ -547,6 +516,5 @@ module _ (job : JobValue) (placed : List Placement) (p : Placement) (inside : p.
     buses = lines_less Bus old.buses.items new.buses.items are.buses removed.bus;
     modules = lines_less Own old.modules.items new.modules.items are.modules removed.own;
     children = lines_less Children old.children.items new.children.items are.children removed.parent;
-    latest = subst (λ (m : ℕ). AreLatestEnds job placed m new.latest) (sym removed.parent.long)
-        (latest_less job placed p (length old.children.items) old.latest new.latest are.latest (there_in Children old.children.items are.children).inside removed.latest);
+    latest = rw removed.parent.long (latest_less job placed p (length old.children.items) old.latest new.latest are.latest (there_in Children old.children.items are.children).inside removed.latest);
   }

@@ -1,17 +1,11 @@
 -- Timelines whose times are all taken out.
-use Rattle.std.proofs.Common.{◌≡◌, ◌⊎◌, inl, inr, ℕ, ◌+◌, ◌<◌, ◌≤◌, false, Option, None, Some, List, [], length, get_or, set, arith, refl, sym, ap, ◌∙◌, subst}
-use Rattle.std.specs.Prelude.{slice_get, nat_eq, IfSome, vec_capacity}
+use Rattle.std.proofs.Common.{◌≡◌, ◌⊎◌, inl, inr, ℕ, ◌+◌, ◌<◌, ◌≤◌, false, Option, None, Some, List, [], length, get_or, set, arith, refl, sym, ap, ◌∙◌, subst, slice_get, nat_eq, IfSome, vec_capacity}
 use Rattle.std.proofs.lemmas.Bool.{cases_Bool, cases_lt, eqb-true, eq-eqb}
-use Rattle.std.proofs.lemmas.List.{length-set}
-use Rattle.std.proofs.lemmas.Option.{slice_get_within, get_or_from_slice_get}
-use Rattle.resource_table.specs.declared.Placement.{Placement}
-use Rattle.resource_table.specs.declared.timelines.Kind.{Kind}
-use Rattle.resource_table.specs.declared.timelines.Kind.TheVariants.{Bus, Own, Children}
-use Rattle.resource_table.specs.declared.timelines.Timeline.{Timeline}
-use Rattle.resource_table.specs.declared.timelines.Timelines.{Timelines}
-use Rattle.resource_table.specs.Jobs.{TestValue, JobValue, no_test}
+use Rattle.std.proofs.lemmas.{List.length-set, Option.slice_get_within, Option.get_or_from_slice_get}
+use Rattle.resource_table.specs.declared.{Placement.Placement, timelines.Timeline.Timeline, timelines.Timelines.Timelines}
+use Rattle.resource_table.specs.declared.timelines.Kind.{Kind, TheVariants.Bus, TheVariants.Own, TheVariants.Children}
+use Rattle.resource_table.{specs.Jobs.JobValue, specs.Jobs.no_test, proofs.Spans.set_there}
 use Rattle.resource_table.specs.BusyTimes.{timeline_of, AreTimelines, AreTimes, AreCleared, AreEmpty, AreEmptyTimes}
-use Rattle.resource_table.proofs.Spans.{set_there}
 use Rattle.common_lemmas.proofs.Lists.{slice_at, set_here, all_from}
 
 -- the first `count` timelines have no times; all have the room that they had
@@ -36,8 +30,7 @@ set_either xs at k x l lt found = elim (cases_Bool (nat_eq at k)) [
   where
     this : at ≡ k → l ≡ x
     this same =
-        let new : slice_get (set xs at x) k ≡ Some x = subst (λ (v : ℕ). slice_get (set xs at x) v ≡ Some x) same (set_here xs at x lt) in
-        let both : (let a : Option Timeline = Some l in a) ≡ Some x = sym found ∙ new in
+        let both = sym found ∙ (subst (λ v. slice_get (set xs at x) v ≡ Some x) same (set_here xs at x lt)) in
         cc
 
     other : nat_eq at k ≡ false → at ≡ k → ⊥
@@ -62,7 +55,7 @@ clear_more old now at read line lt is empty room are = record {
     this_room : (k : ℕ) (l : Timeline) → at ≡ k → l ≡ line → (was : Timeline) × (slice_get old k ≡ Some was) × (vec_capacity l.spans ≡ vec_capacity was.spans)
     this_room k l same one =
         let w = are.room at read (slice_at now at read lt is) in
-        (w.0, subst (λ (v : ℕ). slice_get old v ≡ Some w.0) same w.1, ap (λ (v : Timeline). vec_capacity v.spans) one ∙ room ∙ w.2)
+        (w.0, subst (λ v. slice_get old v ≡ Some w.0) same w.1, ap (λ (v : Timeline). vec_capacity v.spans) one ∙ room ∙ w.2)
 
 pub clear_all : (old now : List Timeline) (count : ℕ) → length now ≤ count → AreClearedTo count old now → AreCleared old now
 clear_all old now count le are = record {
@@ -74,7 +67,7 @@ clear_all old now count le are = record {
 emptied_kind : (kind : Kind) (job : JobValue) (placed : List Placement) (old new : List Timeline) → AreTimelines job placed kind old → AreCleared old new → AreEmpty kind job.tests new
 emptied_kind kind job placed old new are cleared = record {
   many = (let many = are.many in let long = cleared.long in omega (arith, many, long));
-  reach = all_from (λ (t : TestValue). IfSome (timeline_of kind t) (λ k. k < length new)) job.tests (λ i t at.
+  reach = all_from (λ t. IfSome (timeline_of kind t) (λ k. k < length new)) job.tests (λ i t at.
       within (timeline_of kind t) (λ k is. reached k (are.reach i k (slice_get_within job.tests i t at) (ap (timeline_of kind) (get_or_from_slice_get job.tests i t no_test at) ∙ is))));
   empty = cleared.empty;
   room = (λ k line at. let was = cleared.room k line at in let each = are.each k was.0 was.1 in let room = each.room in omega (arith, room, was.2));

@@ -1,15 +1,9 @@
 -- Where a test fits, by the resources of a table.
-use Rattle.std.proofs.Common.{◌≡◌, ℕ, zero, suc, ◌+◌, ◌-◌, ◌<◌, ◌≤◌, ◌^◌, inl, inr, Option, None, Some, List, [], ◌∷◌, length, map, arith, false, refl, sym, ap, subst}
-use Rattle.std.specs.Prelude.{slice_get, nat_le, nat_lt, ◌&&◌, if◌then◌else◌, IfSome}
-use Rattle.std.specs.List.{All, flat_map}
+use Rattle.std.proofs.Common.{◌≡◌, ℕ, zero, suc, ◌+◌, ◌-◌, ◌<◌, ◌≤◌, ◌^◌, inl, inr, None, Some, List, [], ◌∷◌, length, arith, false, refl, sym, ap, subst, slice_get, nat_le, nat_lt, ◌&&◌, if◌then◌else◌, IfSome, All, flat_map}
 use Rattle.std.proofs.lemmas.Bool.{cases_lt, lt-leb, le-leb, lt-ltb, le-ltb, and_right}
 use Rattle.std.proofs.lemmas.List.Sums.{sum_by-cons, sum_by-append, get_or-le-sum_by}
-use Rattle.plan_model.specs.Plans.{step_power}
-use Rattle.plan_model.specs.SoundLimits.{Grow}
-use Rattle.plan_model.proofs.Lists.{from_flat_map}
-use Rattle.plan_model.proofs.Greatest.{le-greatest_at, greatest-least}
-use Rattle.resource_table.specs.declared.Placement.{Placement}
-use Rattle.resource_table.specs.declared.power.Draw.{Draw}
+use Rattle.plan_model.{specs.Plans.step_power, specs.SoundLimits.Grow, proofs.Lists.from_flat_map, proofs.Greatest.le-greatest_at, proofs.Greatest.greatest-least}
+use Rattle.resource_table.specs.declared.{Placement.Placement, power.Draw.Draw}
 use Rattle.resource_table.specs.Jobs.{TestValue, JobValue, test_at, no_test, cycles_of, IsSoundJob}
 use Rattle.resource_table.specs.Schedules.{TableValue, end_of, last_end, drawn, power_of, power_at, StaysWithin, IsSoundTable}
 use Rattle.resource_table.specs.Resources.{step_end, draws_from, draws_of, load_of, StepsFit}
@@ -35,16 +29,15 @@ drawn_at : (start length' : ℕ) (steps : List (ℕ × ℕ)) → Grow 0 steps �
 drawn_at start length' [] grow begins c = absurd (let b = begins.1 in cc)
 drawn_at start length' (s ∷ next) grow begins c =
     let first : s ≡ (0, begins.0) = let b = begins.1 in cc in
-    let zero' : s.0 ≡ 0 = ap (λ (v : ℕ × ℕ). v.0) first in
+    let zero' = ap (λ (v : ℕ × ℕ). v.0) first in
     elim (cases_lt c start) [
       | inl before ↦ rw (lt-leb start c before) (draws_before start length' 0 c (s ∷ next) grow (omega arith))
       | inr begun ↦ elim (cases_lt c (start + length')) [
         | inr over ↦ rw (le-ltb c (start + length') over, and_right (nat_le start c) false refl) (draws_after start length' c (s ∷ next) over)
         | inl active ↦
-            let r : ℕ = c - start in
+            let r = c - start in
             let c_is : start + r ≡ c = omega arith in
-            let here : load_of (draws_from start length' (s ∷ next)) (start + r) ≡ step_power r 0 (s ∷ next) = draws_at start length' 0 s next grow r 0 (omega arith) (omega arith) in
-            rw (le-leb start c begun, lt-ltb c (start + length') active) (rw c_is at here)
+            rw (le-leb start c begun, lt-ltb c (start + length') active) (rw c_is at (draws_at start length' 0 s next grow r 0 (omega arith) (omega arith)))
       ]
     ]
 
@@ -72,46 +65,47 @@ draws_ended job placed = all_from (λ (d : Draw). d.to ≤ last_end job placed) 
     each : (i : ℕ) (d : Draw) → slice_get (flat_map (draws_of job) placed) i ≡ Some d → d.to ≤ last_end job placed
     each i d at =
         let r = from_flat_map (draws_of job) placed i d at in
-        let end : d.to ≤ end_of job r.1 = draws_end r.1.start (cycles_of job r.1.test) (test_at job r.1.test).steps r.2 d r.4 in
-        let last : end_of job r.1 ≤ last_end job placed = le-greatest_at (end_of job) placed r.0 r.1 r.3 in
+        let end = draws_end r.1.start (cycles_of job r.1.test) (test_at job r.1.test).steps r.2 d r.4 in
+        let last = le-greatest_at (end_of job) placed r.0 r.1 r.3 in
         omega arith
 
--- the limit, step by step and cycle by cycle
-steps_within : (load power : ℕ → ℕ) → ((c : ℕ) → load c ≡ power c) → (most start length' : ℕ) (steps : List (ℕ × ℕ)) → Grow 0 steps →
-    ((c : ℕ) → start ≤ c → c < start + length' → power c + step_power (c - start) 0 steps ≤ most) → StepsFit load most start length' steps
-steps_within load power same most start length' [] grow fit = tt
-steps_within load power same most start length' (s ∷ next) grow fit =
-    steps_from_cycles load most start length' 0 0 s next grow (λ r h lt.
-    let h : power (start + r) + step_power (start + r - start) 0 (s ∷ next) ≤ most = fit (start + r) (omega arith) (omega arith) in
-    let r_is : start + r - start ≡ r = omega arith in
-    let h' : power (start + r) + step_power r 0 (s ∷ next) ≤ most = subst (λ (v : ℕ). power (start + r) + step_power v 0 (s ∷ next) ≤ most) r_is h in
-    omega (arith, same (start + r), h'))
+module _ (load power : ℕ → ℕ) (same : ((c : ℕ) → load c ≡ power c)) (most start length' : ℕ) where
+  -- the limit, step by step and cycle by cycle
+  steps_within : (steps : List (ℕ × ℕ)) → Grow 0 steps → ((c : ℕ) → start ≤ c → c < start + length' → power c + step_power (c - start) 0 steps ≤ most) →
+      StepsFit load most start length' steps
+  steps_within [] grow fit = tt
+  steps_within (s ∷ next) grow fit =
+      steps_from_cycles load most start length' 0 0 s next grow (λ r h lt.
+      let h : power (start + r) + step_power (start + r - start) 0 (s ∷ next) ≤ most = fit (start + r) (omega arith) (omega arith) in
+      let r_is : start + r - start ≡ r = omega arith in
+      let h' : power (start + r) + step_power r 0 (s ∷ next) ≤ most = subst (λ (v : ℕ). power (start + r) + step_power v 0 (s ∷ next) ≤ most) r_is h in
+      omega (arith, same (start + r), h'))
 
-cycles_within : (load power : ℕ → ℕ) → ((c : ℕ) → load c ≡ power c) → (most start length' : ℕ) (steps : List (ℕ × ℕ)) → Grow 0 steps → (power' : ℕ) × (slice_get steps 0 ≡ Some (0, power')) →
-    StepsFit load most start length' steps → (c : ℕ) → start ≤ c → c < start + length' → power c + step_power (c - start) 0 steps ≤ most
-cycles_within load power same most start length' [] grow begins fit c from to = absurd (let b = begins.1 in cc)
-cycles_within load power same most start length' (s ∷ next) grow begins fit c from to =
-    let first : s ≡ (0, begins.0) = let b = begins.1 in cc in
-    let zero' : s.0 ≡ 0 = ap (λ (v : ℕ × ℕ). v.0) first in
-    let r : ℕ = c - start in
-    let c_is : start + r ≡ c = omega arith in
-    let here : load (start + r) + step_power r 0 (s ∷ next) ≤ most = cycles_from_steps load most start length' 0 s next grow fit r 0 (omega arith) (omega arith) in
-    let here' : load c + step_power r 0 (s ∷ next) ≤ most = rw c_is at here in
-    omega (arith, same c, here')
+  cycles_within : (steps : List (ℕ × ℕ)) → Grow 0 steps → (power' : ℕ) × (slice_get steps 0 ≡ Some (0, power')) → StepsFit load most start length' steps → (c : ℕ) → start ≤ c →
+      c < start + length' → power c + step_power (c - start) 0 steps ≤ most
+  cycles_within [] grow begins fit c from to = absurd (let b = begins.1 in cc)
+  cycles_within (s ∷ next) grow begins fit c from to =
+      let first : s ≡ (0, begins.0) = let b = begins.1 in cc in
+      let zero' = ap (λ (v : ℕ × ℕ). v.0) first in
+      let r = c - start in
+      let c_is : start + r ≡ c = omega arith in
+      let here = cycles_from_steps load most start length' 0 s next grow fit r 0 (omega arith) (omega arith) in
+      let here' = rw c_is at here in
+      omega (arith, same c, here')
 
-pub steps_from_within : (t : TableValue) (test start limit : ℕ) → IsSoundTable t → test < length t.job.tests → t.job.power ≡ Some limit → StaysWithin t.job t.placed test start →
-    StepsFit (load_of (flat_map (draws_of t.job) t.placed)) limit start (cycles_of t.job test) (test_at t.job test).steps
-steps_from_within t test start limit sound inside is within =
-    let one = sound.job.tests test no_test inside in
-    steps_within (load_of (flat_map (draws_of t.job) t.placed)) (power_at t.job t.placed) (load_is_power t.job t.placed sound.job (λ i p at. (sound.placed i p at).in_job)) limit start (cycles_of t.job test) (test_at t.job test).steps one.grows
-    (λ c from to. subst (λ (o : Option ℕ). IfSome o (λ most. power_at t.job t.placed c + power_of t.job test (c - start) ≤ most)) is (within c (from, to)))
+module _ (t : TableValue) (test start limit : ℕ) (sound : IsSoundTable t) (inside : test < length t.job.tests) (is : t.job.power ≡ Some limit) where
+  pub steps_from_within : StaysWithin t.job t.placed test start →
+      StepsFit (load_of (flat_map (draws_of t.job) t.placed)) limit start (cycles_of t.job test) (test_at t.job test).steps
+  steps_from_within within =
+      let one = sound.job.tests test no_test inside in
+      steps_within (load_of (flat_map (draws_of t.job) t.placed)) (power_at t.job t.placed) (load_is_power t.job t.placed sound.job (λ i p at. (sound.placed i p at).in_job)) limit start (cycles_of t.job test) (test_at t.job test).steps one.grows
+      (λ c from to. rw is at (within c (from, to)))
 
-pub within_from_steps : (t : TableValue) (test start limit : ℕ) → IsSoundTable t → test < length t.job.tests → t.job.power ≡ Some limit →
-    StepsFit (load_of (flat_map (draws_of t.job) t.placed)) limit start (cycles_of t.job test) (test_at t.job test).steps → StaysWithin t.job t.placed test start
-within_from_steps t test start limit sound inside is fit c active =
-    let one = sound.job.tests test no_test inside in
-    subst (λ (o : Option ℕ). IfSome o (λ most. power_at t.job t.placed c + power_of t.job test (c - start) ≤ most)) (sym is)
-    (cycles_within (load_of (flat_map (draws_of t.job) t.placed)) (power_at t.job t.placed) (load_is_power t.job t.placed sound.job (λ i p at. (sound.placed i p at).in_job)) limit start (cycles_of t.job test) (test_at t.job test).steps one.grows one.begins fit c active.0 active.1)
+  pub within_from_steps : StepsFit (load_of (flat_map (draws_of t.job) t.placed)) limit start (cycles_of t.job test) (test_at t.job test).steps →
+      StaysWithin t.job t.placed test start
+  within_from_steps fit c active =
+      let one = sound.job.tests test no_test inside in
+      rw is (cycles_within (load_of (flat_map (draws_of t.job) t.placed)) (power_at t.job t.placed) (load_is_power t.job t.placed sound.job (λ i p at. (sound.placed i p at).in_job)) limit start (cycles_of t.job test) (test_at t.job test).steps one.grows one.begins fit c active.0 active.1)
 
 pub within_without_limit : (job : JobValue) (placed : List Placement) (test start : ℕ) → job.power ≡ None → StaysWithin job placed test start
-within_without_limit job placed test start none c active = subst (λ (o : Option ℕ). IfSome o (λ most. power_at job placed c + power_of job test (c - start) ≤ most)) (sym none) tt
+within_without_limit job placed test start none c active = subst (λ o. IfSome o (λ most. power_at job placed c + power_of job test (c - start) ≤ most)) (sym none) tt

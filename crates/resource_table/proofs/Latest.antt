@@ -1,23 +1,15 @@
 -- Until when the children of each module run at the latest, as tests are placed and taken back.
-use Rattle.std.proofs.Common.{◌≡◌, ◌⊎◌, ℕ, zero, suc, ◌+◌, ◌<◌, ◌≤◌, inl, inr, max, Option, None, Some, List, [], ◌∷◌, ◌++◌, length, get_or, arith, refl, sym, ap, ◌∙◌, subst, length-append}
-use Rattle.std.specs.Prelude.{slice_get, IfSome, vec_capacity}
-use Rattle.std.proofs.Math.ListN.{get_or-append}
-use Rattle.std.proofs.Math.Seq.{get_or-append_seam}
-use Rattle.std.proofs.lemmas.Bool.{cases_eq}
-use Rattle.std.proofs.lemmas.Grind.{get_or-set_at}
-use Rattle.std.proofs.lemmas.List.{length-set, get_or-set_other}
-use Rattle.std.proofs.lemmas.Option.{slice_get_within}
+use Rattle.std.proofs.Common.{◌≡◌, ◌⊎◌, ℕ, zero, suc, ◌+◌, ◌<◌, ◌≤◌, inl, inr, max, Option, None, Some, List, [], ◌∷◌, ◌++◌, length, get_or, arith, refl, sym, ap, ◌∙◌, length-append}
+use Rattle.std.{specs.Prelude.slice_get, specs.Prelude.IfSome, specs.Prelude.vec_capacity, proofs.Math.ListN.get_or-append, proofs.Math.Seq.get_or-append_seam}
+use Rattle.std.proofs.lemmas.{Bool.cases_eq, Grind.get_or-set_at, Option.slice_get_within, List.length-set, List.get_or-set_other}
 use Rattle.plan_model.proofs.Lists.{from_append}
-use Rattle.resource_table.specs.declared.Placement.{Placement}
-use Rattle.resource_table.specs.declared.latest_ends.LatestEnds.{LatestEnds}
-use Rattle.resource_table.specs.Jobs.{JobValue, test_at}
-use Rattle.resource_table.specs.Schedules.{end_of}
+use Rattle.resource_table.specs.{declared.Placement.Placement, declared.latest_ends.LatestEnds.LatestEnds, Jobs.JobValue, Jobs.test_at, Schedules.end_of}
 use Rattle.resource_table.specs.LatestEnds.{end_at, with_end, IsLater, IsBack, IsChildAt, AreLatestEnds}
 use Rattle.common_lemmas.proofs.Lists.{at_last, at_left}
 
 -- ---- another end at a place
 
-some_is : (j k : ℕ) → (let a : Option ℕ = Some j in a) ≡ Some k → j ≡ k
+some_is : (j k : ℕ) → (let a = Some j in a) ≡ Some k → j ≡ k
 some_is j k e = cc
 
 at_or_not : (place : Option ℕ) (k : ℕ) → (place ≡ Some k) ⊎ (place ≡ Some k → ⊥)
@@ -41,7 +33,7 @@ with_end_other (Some j) end ends k apart = get_or-set_other ends j k end 0 (λ e
 
 end_is : (place : Option ℕ) (ends : List ℕ) (k : ℕ) → place ≡ Some k → end_at place ends ≡ get_or ends k 0
 end_is None ends k is = absurd cc
-end_is (Some j) ends k is = ap (λ (n : ℕ). get_or ends n 0) (some_is j k is)
+end_is (Some j) ends k is = ap (λ n. get_or ends n 0) (some_is j k is)
 
 -- a later end at a place makes no end earlier
 ends_rise : (place : Option ℕ) (end : ℕ) (ends : List ℕ) (k : ℕ) → IfSome place (λ j. j < length ends) → get_or ends k 0 ≤ get_or (with_end place (max (end_at place ends) end) ends) k 0
@@ -113,16 +105,16 @@ module _ (job : JobValue) (placed : List Placement) (p : Placement) where
       ends = old.ends.items
 
       inside : IfSome place (λ k. k < length ends)
-      inside = subst (λ (m : ℕ). IfSome place (λ k. k < m)) (sym are.long) within
+      inside = rw are.long within
 
       now_is : (k : ℕ) → get_or new.ends.items k 0 ≡ get_or (with_end place (max (end_at place ends) (end_of job p)) ends) k 0
-      now_is k = ap (λ (v : List ℕ). get_or v k 0) raised.ends
+      now_is k = ap (λ v. get_or v k 0) raised.ends
 
       before_is : (n : ℕ) → get_or new.before.items n 0 ≡ get_or (old.before.items ++ end_at place ends ∷ []) n 0
-      before_is n = ap (λ (v : List ℕ). get_or v n 0) raised.before
+      before_is n = ap (λ v. get_or v n 0) raised.before
 
       seam : (n : ℕ) → n ≡ length placed → get_or (old.before.items ++ end_at place ends ∷ []) n 0 ≡ end_at place ends
-      seam n is = ap (λ (m : ℕ). get_or (old.before.items ++ end_at place ends ∷ []) m 0) (is ∙ sym are.levels) ∙ get_or-append_seam old.before.items (end_at place ends) [] 0
+      seam n is = ap (λ m. get_or (old.before.items ++ end_at place ends ∷ []) m 0) (is ∙ sym are.levels) ∙ get_or-append_seam old.before.items (end_at place ends) [] 0
 
   pub latest_less : (modules : ℕ) (old new : LatestEnds) → AreLatestEnds job (placed ++ p ∷ []) modules old → IfSome (test_at job p.test).parent (λ k. k < modules) → IsBack (test_at job p.test).parent old new →
       AreLatestEnds job placed modules new
@@ -150,16 +142,16 @@ module _ (job : JobValue) (placed : List Placement) (p : Placement) where
       ends = old.ends.items
 
       inside : IfSome place (λ k. k < length ends)
-      inside = subst (λ (m : ℕ). IfSome place (λ k. k < m)) (sym are.long) within
+      inside = rw are.long within
 
       levels : length new.before.items ≡ length placed
       levels = omega (arith, ap length back.before, length-append new.before.items (back.was ∷ []), are.levels, length-append placed (p ∷ []))
 
       now_is : (k : ℕ) → get_or new.ends.items k 0 ≡ get_or (with_end place back.was ends) k 0
-      now_is k = ap (λ (v : List ℕ). get_or v k 0) back.ends
+      now_is k = ap (λ v. get_or v k 0) back.ends
 
       before_is : (n : ℕ) → get_or old.before.items n 0 ≡ get_or (new.before.items ++ back.was ∷ []) n 0
-      before_is n = ap (λ (v : List ℕ). get_or v n 0) back.before
+      before_is n = ap (λ v. get_or v n 0) back.before
 
       seam : get_or (new.before.items ++ back.was ∷ []) (length placed) 0 ≡ back.was
-      seam = ap (λ (m : ℕ). get_or (new.before.items ++ back.was ∷ []) m 0) (sym levels) ∙ get_or-append_seam new.before.items back.was [] 0
+      seam = ap (λ m. get_or (new.before.items ++ back.was ∷ []) m 0) (sym levels) ∙ get_or-append_seam new.before.items back.was [] 0

@@ -1,6 +1,4 @@
-pub mod Places
 pub mod Near
-pub mod Loads
 pub mod Steps
 pub mod Spans
 pub mod Rewinding

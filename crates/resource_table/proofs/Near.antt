@@ -1,9 +1,7 @@
 -- Where a search that goes from place to place ends.
 use Rattle.std.proofs.Common.{ℕ, ◌-◌, ◌<◌, ◌≤◌, inl, inr, List, length, get_or, arith, subst}
-use Rattle.std.specs.List.Sorted.{IsNonDecreasingBy, IsPartitionPoint}
-use Rattle.std.proofs.lemmas.Bool.{cases_eq}
-use Rattle.resource_table.specs.declared.points.Point.{Point}
-use Rattle.resource_table.specs.Profiles.{no_point}
+use Rattle.std.{specs.List.Sorted.IsNonDecreasingBy, specs.List.Sorted.IsPartitionPoint, proofs.lemmas.Bool.cases_eq}
+use Rattle.resource_table.specs.{declared.points.Point.Point, Profiles.no_point}
 use Rattle.common_lemmas.proofs.Lists.{any_default}
 
 -- the point at a place doesn't stand before a cycle, and the one before that place does
@@ -13,19 +11,17 @@ parts_near points c place ordered le late ahead = (low, high)
   where
     low : (k : ℕ) (d : Point) → 0 ≤ k → k < place → (get_or points k d).cycle < c
     low k d any lt =
-        let last : (get_or points (place - 1) no_point).cycle < c = ahead (omega (arith, lt)) in
         let inside : place - 1 < length points = omega (arith, lt, le) in
         let here : (get_or points k no_point).cycle ≤ (get_or points (place - 1) no_point).cycle = elim (cases_eq k (place - 1)) [
-          | inl same ↦ subst (λ (n : ℕ). (get_or points k no_point).cycle ≤ (get_or points n no_point).cycle) same (omega arith)
+          | inl same ↦ subst (λ n. (get_or points k no_point).cycle ≤ (get_or points n no_point).cycle) same (omega arith)
           | inr apart ↦ ordered k (place - 1) no_point (omega (arith, lt, apart)) inside
         ] in
-        subst (λ (p : Point). p.cycle < c) (any_default points k no_point d (omega (arith, lt, le))) (omega (arith, last, here))
+        subst (λ (p : Point). p.cycle < c) (any_default points k no_point d (omega (arith, lt, le))) (omega (arith, ahead (omega (arith, lt)), here))
 
     high : (k : ℕ) (d : Point) → place ≤ k → k < length points → c ≤ (get_or points k d).cycle
     high k d from lt =
-        let first : c ≤ (get_or points place no_point).cycle = late (omega (arith, from, lt)) in
         let here : (get_or points place no_point).cycle ≤ (get_or points k no_point).cycle = elim (cases_eq place k) [
-          | inl same ↦ subst (λ (n : ℕ). (get_or points place no_point).cycle ≤ (get_or points n no_point).cycle) same (omega arith)
+          | inl same ↦ subst (λ n. (get_or points place no_point).cycle ≤ (get_or points n no_point).cycle) same (omega arith)
           | inr apart ↦ ordered place k no_point (omega (arith, from, apart)) lt
         ] in
-        subst (λ (p : Point). c ≤ p.cycle) (any_default points k no_point d lt) (omega (arith, first, here))
+        subst (λ (p : Point). c ≤ p.cycle) (any_default points k no_point d lt) (omega (arith, late (omega (arith, from, lt)), here))

@@ -1,40 +1,35 @@
 -- Profiles of the power that is drawn.
-use Rattle.std.proofs.Common.{◌≡◌, ◌⊎◌, ℕ, zero, suc, ◌+◌, ◌-◌, ◌<◌, ◌≤◌, ◌^◌, inl, inr, Some, List, [], ◌∷◌, ◌++◌, length, get_or, set, take, drop, map, arith, refl, sym, ap, ◌∙◌, subst}
-use Rattle.std.specs.Prelude.{slice_get, nat_eq, if◌then◌else◌}
-use Rattle.std.specs.List.{All, sum_by, filter, insert}
-use Rattle.std.specs.List.Sorted.{IsNonDecreasingBy, IsPartitionPoint}
+use Rattle.std.proofs.Common.{◌≡◌, ◌⊎◌, ℕ, zero, suc, ◌+◌, ◌-◌, ◌<◌, ◌≤◌, ◌^◌, inl, inr, Some, List, [], ◌∷◌, ◌++◌, length, get_or, set, take, drop, map, arith, refl, sym, ap, ◌∙◌, subst, slice_get, nat_eq, if◌then◌else◌, All, sum_by, filter, insert}
+use Rattle.std.specs.List.{Sorted.IsNonDecreasingBy, Sorted.IsPartitionPoint}
 use Rattle.std.proofs.lemmas.Bool.{cases_Bool, cases_lt, cases_eq, eqb-true, eqb-false, eq-eqb}
-use Rattle.std.proofs.lemmas.List.{take_more, same_lists, length-map, length-set, get_or-map, get_or-set_same, get_or-set_other}
+use Rattle.std.proofs.lemmas.List.{take_more, same_lists, length-map, length-set, get_or-map, get_or-set_same, get_or-set_other, Kept.IsNonDecreasingBy-filter, Sorted.IsNonDecreasingBy-insert, Sorted.IsNonDecreasingBy-take}
 use Rattle.std.proofs.lemmas.List.Elements.{All-append, All-cons, All-take, All-drop, All-map, All-filter}
-use Rattle.std.proofs.lemmas.List.Kept.{IsNonDecreasingBy-filter}
-use Rattle.std.proofs.lemmas.List.Sorted.{IsNonDecreasingBy-insert, IsNonDecreasingBy-take}
 use Rattle.std.proofs.lemmas.List.Sums.{sum_by-cons, sum_by_push, sum_by-insert, sum_by-set, sum_by_more_le, sum_by-take-drop, sum_by-drop_more}
 use Rattle.plan_model.proofs.Sums.{sum_by-le_at, sum_by-filter}
-use Rattle.resource_table.specs.declared.power.Draw.{Draw}
-use Rattle.resource_table.specs.declared.points.Point.{Point}
-use Rattle.resource_table.specs.Resources.{taken_by, load_of}
+use Rattle.resource_table.specs.{declared.power.Draw.Draw, declared.points.Point.Point, Resources.taken_by, Resources.load_of}
 use Rattle.resource_table.specs.Profiles.{no_point, load_before, IsProfile, uses_at, all_uses, is_used, counted, ArePoints, AreMarked, raised_by}
-use Rattle.common_lemmas.proofs.Lists.{all_at, any_default}
+use Rattle.common_lemmas.proofs.Lists.{all_at, any_default, sum_map}
 
 -- ---- what a draw takes
 
-pub none_taken : (d : Draw) (c : ℕ) → (c < d.from) ⊎ (d.to ≤ c) → taken_by c d ≡ 0
-none_taken d c (inl early) = grind (arith, early)
-none_taken d c (inr late) = grind (arith, late)
+module _ (d : Draw) where
+  pub none_taken : (c : ℕ) → (c < d.from) ⊎ (d.to ≤ c) → taken_by c d ≡ 0
+  none_taken c (inl early) = grind (arith, early)
+  none_taken c (inr late) = grind (arith, late)
 
-pub all_taken : (d : Draw) (c : ℕ) → d.from ≤ c → c < d.to → taken_by c d ≡ d.power
-all_taken d c from to = grind (arith, from, to)
+  pub all_taken : (c : ℕ) → d.from ≤ c → c < d.to → taken_by c d ≡ d.power
+  all_taken c from to = grind (arith, from, to)
 
-taken_same : (d : Draw) (a c : ℕ) → a ≤ c → (d.from ≤ a) ⊎ (c < d.from) → (d.to ≤ a) ⊎ (c < d.to) → taken_by c d ≡ taken_by a d
-taken_same d a c le (inl f) (inl t) = none_taken d c (inr (omega arith)) ∙ sym (none_taken d a (inr t))
-taken_same d a c le (inl f) (inr t) = all_taken d c (omega arith) t ∙ sym (all_taken d a f (omega arith))
-taken_same d a c le (inr f) t = none_taken d c (inl f) ∙ sym (none_taken d a (inl (omega arith)))
+  taken_same : (a c : ℕ) → a ≤ c → (d.from ≤ a) ⊎ (c < d.from) → (d.to ≤ a) ⊎ (c < d.to) → taken_by c d ≡ taken_by a d
+  taken_same a c le (inl f) (inl t) = none_taken c (inr (omega arith)) ∙ sym (none_taken a (inr t))
+  taken_same a c le (inl f) (inr t) = all_taken c (omega arith) t ∙ sym (all_taken a f (omega arith))
+  taken_same a c le (inr f) t = none_taken c (inl f) ∙ sym (none_taken a (inl (omega arith)))
 
-never_taken : (d : Draw) (c : ℕ) → d.to ≤ d.from → taken_by c d ≡ 0
-never_taken d c empty = elim (cases_lt c d.from) [
-  | inl early ↦ none_taken d c (inl early)
-  | inr late ↦ none_taken d c (inr (omega arith))
-]
+  never_taken : (c : ℕ) → d.to ≤ d.from → taken_by c d ≡ 0
+  never_taken c empty = elim (cases_lt c d.from) [
+    | inl early ↦ none_taken c (inl early)
+    | inr late ↦ none_taken c (inr (omega arith))
+  ]
 
 -- ---- points of draws
 
@@ -62,20 +57,20 @@ point_of draws cycles points are c some =
     let r = some_used c points (omega arith) in
     (r.0, r.1, r.2, r.3)
 
-none_at_all : (f : Draw → ℕ) (draws : List Draw) → ((i : ℕ) (d : Draw) → slice_get draws i ≡ Some d → f d ≡ 0) → sum_by f draws ≡ 0
-none_at_all f [] h = refl
-none_at_all f (d ∷ draws) h = omega (arith, sum_by-cons f d draws, h 0 d refl, none_at_all f draws (λ i e at. h (suc i) e at))
+pub sum_of_none : {X : Type 0} (f : X → ℕ) (xs : List X) → ((i : ℕ) (x : X) → slice_get xs i ≡ Some x → f x ≡ 0) → sum_by f xs ≡ 0
+sum_of_none f [] none = refl
+sum_of_none f (x ∷ xs) none = omega (arith, sum_by-cons f x xs, none 0 x refl, sum_of_none f xs (λ i y at. none (suc i) y at))
 
 -- the points of draws tell their load
 pub drawn_profile : (draws : List Draw) (cycles : List ℕ) (points : List Point) → AreMarked draws cycles → ArePoints draws cycles points → IsProfile (load_of draws) points
 drawn_profile draws cycles points marked are = record {
   ordered = are.ordered;
   here = are.loads;
-  none_before = (λ c all. none_at_all (taken_by c) draws (λ i d at. elim (marked.each i d at) [
+  none_before = (λ c all. sum_of_none (taken_by c) draws (λ i d at. elim (marked.each i d at) [
     | inl empty ↦ never_taken d c empty
     | inr both ↦
         (let r = point_of draws cycles points are d.from both.0 in
-        let late : c < r.1.cycle = all_at (λ (p : Point). c < p.cycle) points r.0 r.1 all r.2 in
+        let late = all_at (λ (p : Point). c < p.cycle) points r.0 r.1 all r.2 in
         none_taken d c (inl (let e = r.3 in omega arith)))
   ]));
   between = (λ a c le all.
@@ -85,11 +80,11 @@ drawn_profile draws cycles points marked are = record {
             (let r = point_of draws cycles points are d.from both.0 in
             let s = point_of draws cycles points are d.to both.1 in
             taken_same d a c le
-            (subst (λ (v : ℕ). (v ≤ a) ⊎ (c < v)) r.3 (all_at (λ (p : Point). (p.cycle ≤ a) ⊎ (c < p.cycle)) points r.0 r.1 all r.2))
-            (subst (λ (v : ℕ). (v ≤ a) ⊎ (c < v)) s.3 (all_at (λ (p : Point). (p.cycle ≤ a) ⊎ (c < p.cycle)) points s.0 s.1 all s.2)))
+            (rw r.3 at (all_at (λ (p : Point). (p.cycle ≤ a) ⊎ (c < p.cycle)) points r.0 r.1 all r.2))
+            (rw s.3 at (all_at (λ (p : Point). (p.cycle ≤ a) ⊎ (c < p.cycle)) points s.0 s.1 all s.2)))
       ] in
-      let most : load_of draws c ≤ load_of draws a = sum_by-le_at (taken_by c) (taken_by a) draws (λ i d at. let e = same i d at in omega arith) in
-      let least : load_of draws a ≤ load_of draws c = sum_by-le_at (taken_by a) (taken_by c) draws (λ i d at. let e = same i d at in omega arith) in
+      let most = sum_by-le_at (taken_by c) (taken_by a) draws (λ i d at. let e = same i d at in omega arith) in
+      let least = sum_by-le_at (taken_by a) (taken_by c) draws (λ i d at. let e = same i d at in omega arith) in
       omega arith);
 }
 
@@ -101,13 +96,11 @@ pub load_there : (load : ℕ → ℕ) (points : List Point) → IsProfile load p
 load_there load points is zero c le parts = is.none_before c (λ k d lt. parts.1 k d (omega arith) lt)
 load_there load points is (suc n) c le parts =
     let lt : n < length points = omega (arith, le) in
-    let here : (get_or points n no_point).load ≡ load (get_or points n no_point).cycle = is.here n no_point lt in
-    let early : (get_or points n no_point).cycle ≤ c = parts.0 n no_point (omega arith) (omega arith) in
-    let stays : load c ≡ load (get_or points n no_point).cycle = is.between (get_or points n no_point).cycle c early (λ k d inside. elim (cases_lt n k) [
+    let stays = is.between (get_or points n no_point).cycle c (parts.0 n no_point (omega arith) (omega arith)) (λ k d inside. elim (cases_lt n k) [
       | inl late ↦ inr (parts.1 k d (omega arith) inside)
-      | inr before ↦ inl (subst (λ (v : Point). (get_or points k d).cycle ≤ v.cycle) (any_default points n d no_point lt) (is.ordered k n d before lt))
+      | inr before ↦ inl (rw (any_default points n d no_point lt) at (is.ordered k n d before lt))
     ]) in
-    stays ∙ sym here
+    stays ∙ sym (is.here n no_point lt)
 
 -- ---- a point more, a point less
 
@@ -154,65 +147,61 @@ module _ (draws : List Draw) (points : List Point) (place n : ℕ) (lt : place <
   abbrev changed : List Point
   changed = set points place (with_uses here n)
 
-  cycle_stays : (k : ℕ) (d : Point) → (get_or changed k d).cycle ≡ (get_or points k d).cycle
-  cycle_stays k d = elim (cases_eq k place) [
-    | inl same ↦ subst (λ (v : ℕ). (get_or changed v d).cycle ≡ (get_or points v d).cycle) (sym same) (ap (λ (p : Point). p.cycle) (get_or-set_same points place (with_uses here n) d lt ∙ refl) ∙ ap (λ (p : Point). p.cycle) (any_default points place no_point d lt))
-    | inr apart ↦ ap (λ (p : Point). p.cycle) (get_or-set_other points place k (with_uses here n) d apart)
-  ]
-
-  load_stays : (k : ℕ) (d : Point) → (get_or changed k d).load ≡ (get_or points k d).load
-  load_stays k d = elim (cases_eq k place) [
-    | inl same ↦ subst (λ (v : ℕ). (get_or changed v d).load ≡ (get_or points v d).load) (sym same) (ap (λ (p : Point). p.load) (get_or-set_same points place (with_uses here n) d lt) ∙ ap (λ (p : Point). p.load) (any_default points place no_point d lt))
-    | inr apart ↦ ap (λ (p : Point). p.load) (get_or-set_other points place k (with_uses here n) d apart)
+  -- what its marks don't tell stays
+  stays : (f : Point → ℕ) → f (with_uses here n) ≡ f here → (k : ℕ) (d : Point) → f (get_or changed k d) ≡ f (get_or points k d)
+  stays f same k d = elim (cases_eq k place) [
+    | inl at ↦ rw at (ap f (get_or-set_same points place (with_uses here n) d lt) ∙ same ∙ ap f (any_default points place no_point d lt))
+    | inr apart ↦ ap f (get_or-set_other points place k (with_uses here n) d apart)
   ]
 
   order_stays : IsNonDecreasingBy (λ (p : Point). p.cycle) points → IsNonDecreasingBy (λ (p : Point). p.cycle) changed
-  order_stays ordered i j d le inside = (let old = ordered i j d le (omega (arith, inside, length-set points place (with_uses here n))) in omega (arith, old, cycle_stays i d, cycle_stays j d))
+  order_stays ordered i j d le inside = (let old = ordered i j d le (omega (arith, inside, length-set points place (with_uses here n))) in omega (arith, old, stays (λ p. p.cycle) refl i d, stays (λ p. p.cycle) refl j d))
 
   loads_stay : All (λ (p : Point). p.load ≡ load_of draws p.cycle) points → All (λ (p : Point). p.load ≡ load_of draws p.cycle) changed
-  loads_stay loads k d inside = load_stays k d ∙ loads k d (omega (arith, inside, length-set points place (with_uses here n))) ∙ ap (load_of draws) (sym (cycle_stays k d))
+  loads_stay loads k d inside = stays (λ p. p.load) refl k d ∙ loads k d (omega (arith, inside, length-set points place (with_uses here n))) ∙ ap (load_of draws) (sym (stays (λ p. p.cycle) refl k d))
 
-pub mark_added : (draws : List Draw) (cycles : List ℕ) (points : List Point) (place c : ℕ) → ArePoints draws cycles points → place < length points → (get_or points place no_point).cycle ≡ c →
-    ArePoints draws (c ∷ cycles) (set points place (record { cycle = (get_or points place no_point).cycle; load = (get_or points place no_point).load; uses = (get_or points place no_point).uses + 1 }))
-mark_added draws cycles points place c are lt is =
-    let p : Point = get_or points place no_point in
-    let n : ℕ = p.uses + 1 in
-    record {
-      ordered = order_stays draws points place n lt are.ordered;
-      loads = loads_stay draws points place n lt are.loads;
-      marks = (λ x.
-          let old = are.marks x in
-          let one : (let n : ℕ = if nat_eq p.cycle x then 1 else 0 in n) ≡ (let n : ℕ = if nat_eq c x then 1 else 0 in n) = ap (λ (v : ℕ). let n : ℕ = if nat_eq v x then 1 else 0 in n) is in
-          omega (arith, old, one, uses_more p x, sum_by-set (uses_at x) points place (with_uses p n) no_point lt, sum_by-cons (λ y. if nat_eq y x then 1 else 0) c cycles));
-      count = (let old = are.count in omega (arith, old, sum_by-set (λ (p : Point). p.uses) points place (with_uses p n) no_point lt));
-    }
+module _ (draws : List Draw) (cycles : List ℕ) (points : List Point) (place c : ℕ) where
+  pub mark_added : ArePoints draws cycles points → place < length points → (get_or points place no_point).cycle ≡ c →
+      ArePoints draws (c ∷ cycles) (set points place (record { cycle = (get_or points place no_point).cycle; load = (get_or points place no_point).load; uses = (get_or points place no_point).uses + 1 }))
+  mark_added are lt is =
+      let p = get_or points place no_point in
+      let n = p.uses + 1 in
+      record {
+        ordered = order_stays draws points place n lt are.ordered;
+        loads = loads_stay draws points place n lt are.loads;
+        marks = (λ x.
+            let old = are.marks x in
+            let one = ap (λ v. let n : ℕ = if nat_eq v x then 1 else 0 in n) is in
+            omega (arith, old, one, uses_more p x, sum_by-set (uses_at x) points place (with_uses p n) no_point lt, sum_by-cons (λ y. if nat_eq y x then 1 else 0) c cycles));
+        count = (let old = are.count in omega (arith, old, sum_by-set (λ (p : Point). p.uses) points place (with_uses p n) no_point lt));
+      }
 
-pub mark_removed : (draws : List Draw) (cycles : List ℕ) (points : List Point) (place c : ℕ) → ArePoints draws (c ∷ cycles) points → place < length points → (get_or points place no_point).cycle ≡ c → 1 ≤ (get_or points place no_point).uses →
-    ArePoints draws cycles (set points place (record { cycle = (get_or points place no_point).cycle; load = (get_or points place no_point).load; uses = (get_or points place no_point).uses - 1 }))
-mark_removed draws cycles points place c are lt is some =
-    let p : Point = get_or points place no_point in
-    let n : ℕ = p.uses - 1 in
-    record {
-      ordered = order_stays draws points place n lt are.ordered;
-      loads = loads_stay draws points place n lt are.loads;
-      marks = (λ x.
-          let old = are.marks x in
-          let one : (let n : ℕ = if nat_eq p.cycle x then 1 else 0 in n) ≡ (let n : ℕ = if nat_eq c x then 1 else 0 in n) = ap (λ (v : ℕ). let n : ℕ = if nat_eq v x then 1 else 0 in n) is in
-          omega (arith, old, one, uses_less p x some, sum_by-set (uses_at x) points place (with_uses p n) no_point lt, sum_by-cons (λ y. if nat_eq y x then 1 else 0) c cycles));
-      count = (let old = are.count in omega (arith, old, some, sum_by-set (λ (p : Point). p.uses) points place (with_uses p n) no_point lt));
-    }
+  pub mark_removed : ArePoints draws (c ∷ cycles) points → place < length points → (get_or points place no_point).cycle ≡ c → 1 ≤ (get_or points place no_point).uses →
+      ArePoints draws cycles (set points place (record { cycle = (get_or points place no_point).cycle; load = (get_or points place no_point).load; uses = (get_or points place no_point).uses - 1 }))
+  mark_removed are lt is some =
+      let p = get_or points place no_point in
+      let n = p.uses - 1 in
+      record {
+        ordered = order_stays draws points place n lt are.ordered;
+        loads = loads_stay draws points place n lt are.loads;
+        marks = (λ x.
+            let old = are.marks x in
+            let one = ap (λ v. let n : ℕ = if nat_eq v x then 1 else 0 in n) is in
+            omega (arith, old, one, uses_less p x some, sum_by-set (uses_at x) points place (with_uses p n) no_point lt, sum_by-cons (λ y. if nat_eq y x then 1 else 0) c cycles));
+        count = (let old = are.count in omega (arith, old, some, sum_by-set (λ (p : Point). p.uses) points place (with_uses p n) no_point lt));
+      }
 
 -- ---- points without a mark
 
 used_part : (f : Point → ℕ) (p : Point) → f p ≤ p.uses → (let n : ℕ = if is_used p then f p else 0 in n) ≡ f p
 used_part f p le = elim (cases_Bool (nat_eq p.uses 0)) [
-  | inl none ↦ (let zero' : p.uses ≡ 0 = eqb-true p.uses 0 none in rw none (omega (arith, zero', le)))
+  | inl none ↦ (let zero' = eqb-true p.uses 0 none in rw none (omega (arith, zero', le)))
   | inr some ↦ rw some refl
 ]
 
-used_sum : (f : Point → ℕ) (points : List Point) → ((p : Point) → f p ≤ p.uses) → sum_by (λ (p : Point). if is_used p then f p else 0) points ≡ sum_by f points
+used_sum : (f : Point → ℕ) (points : List Point) → ((p : Point) → f p ≤ p.uses) → sum_by (λ p. if is_used p then f p else 0) points ≡ sum_by f points
 used_sum f [] le = refl
-used_sum f (p ∷ points) le = omega (arith, used_part f p (le p), sum_by-cons (λ (p : Point). if is_used p then f p else 0) p points, sum_by-cons f p points, used_sum f points le)
+used_sum f (p ∷ points) le = omega (arith, used_part f p (le p), sum_by-cons (λ p. if is_used p then f p else 0) p points, sum_by-cons f p points, used_sum f points le)
 
 uses_at-le : (c : ℕ) (p : Point) → uses_at c p ≤ p.uses
 uses_at-le c p = elim (cases_Bool (nat_eq p.cycle c)) [
@@ -220,31 +209,31 @@ uses_at-le c p = elim (cases_Bool (nat_eq p.cycle c)) [
   | inr apart ↦ rw apart (omega arith)
 ]
 
-pub unused_dropped : (draws : List Draw) (cycles : List ℕ) (points : List Point) → ArePoints draws cycles points → ArePoints draws cycles (filter is_used points)
-unused_dropped draws cycles points are = record {
-  ordered = IsNonDecreasingBy-filter (λ (p : Point). p.cycle) is_used points are.ordered;
-  loads = All-filter is_used (λ (p : Point). p.load ≡ load_of draws p.cycle) points are.loads;
-  marks = (λ c. sum_by-filter is_used (uses_at c) points ∙ used_sum (uses_at c) points (uses_at-le c) ∙ are.marks c);
-  count = sum_by-filter is_used (λ (p : Point). p.uses) points ∙ used_sum (λ (p : Point). p.uses) points (λ p. omega arith) ∙ are.count;
-}
+module _ (draws : List Draw) (cycles : List ℕ) (points : List Point) where
+  pub unused_dropped : ArePoints draws cycles points → ArePoints draws cycles (filter is_used points)
+  unused_dropped are = record {
+    ordered = IsNonDecreasingBy-filter (λ (p : Point). p.cycle) is_used points are.ordered;
+    loads = All-filter is_used (λ (p : Point). p.load ≡ load_of draws p.cycle) points are.loads;
+    marks = (λ c. sum_by-filter is_used (uses_at c) points ∙ used_sum (uses_at c) points (uses_at-le c) ∙ are.marks c);
+    count = sum_by-filter is_used (λ (p : Point). p.uses) points ∙ used_sum (λ (p : Point). p.uses) points (λ p. omega arith) ∙ are.count;
+  }
 
--- the points at the end, from a place on, have no mark
-pub last_dropped : (draws : List Draw) (cycles : List ℕ) (points : List Point) (n : ℕ) → all_uses (drop n points) ≡ 0 → ArePoints draws cycles points → ArePoints draws cycles (take n points)
-last_dropped draws cycles points n unused are = record {
-  ordered = IsNonDecreasingBy-take (λ (p : Point). p.cycle) n points are.ordered;
-  loads = All-take (λ (p : Point). p.load ≡ load_of draws p.cycle) n points are.loads;
-  marks = (λ c.
-      let old = are.marks c in
-      let none = sum_by-le_at (uses_at c) (λ (p : Point). p.uses) (drop n points) (λ i p at. uses_at-le c p) in
-      omega (arith, old, none, unused, sum_by-take-drop (uses_at c) points n));
-  count = (let old = are.count in omega (arith, old, unused, sum_by-take-drop (λ (p : Point). p.uses) points n));
-}
+  -- the points at the end, from a place on, have no mark
+  pub last_dropped : (n : ℕ) → all_uses (drop n points) ≡ 0 → ArePoints draws cycles points → ArePoints draws cycles (take n points)
+  last_dropped n unused are = record {
+    ordered = IsNonDecreasingBy-take (λ (p : Point). p.cycle) n points are.ordered;
+    loads = All-take (λ (p : Point). p.load ≡ load_of draws p.cycle) n points are.loads;
+    marks = (λ c.
+        let none = sum_by-le_at (uses_at c) (λ (p : Point). p.uses) (drop n points) (λ i p at. uses_at-le c p) in
+        omega (arith, are.marks c, none, unused, sum_by-take-drop (uses_at c) points n));
+    count = (let old = are.count in omega (arith, old, unused, sum_by-take-drop (λ (p : Point). p.uses) points n));
+  }
 
 -- one more before them
 pub unused_more : (points : List Point) (n : ℕ) → 0 < n → n ≤ length points → (get_or points (n - 1) no_point).uses ≡ 0 → all_uses (drop n points) ≡ 0 → all_uses (drop (n - 1) points) ≡ 0
 unused_more points n some le none unused =
     let back : n - 1 + 1 ≡ n = omega (arith, some) in
-    let rest : all_uses (drop (n - 1 + 1) points) ≡ 0 = subst (λ (k : ℕ). all_uses (drop k points) ≡ 0) (sym back) unused in
+    let rest = rw (← back) at unused in
     omega (arith, none, rest, sum_by-drop_more (λ (p : Point). p.uses) points (n - 1) no_point (omega (arith, some, le)))
 
 pub few_used : (points : List Point) → length (filter is_used points) ≤ all_uses points
@@ -257,13 +246,13 @@ few_used (p ∷ points) = elim (cases_Bool (nat_eq p.uses 0)) [
 -- ---- a draw more, a draw less
 
 raised_none : (d : Draw) (p : Point) → taken_by p.cycle d ≡ 0 → raised_by d p ≡ p
-raised_none d p none = ap (λ (n : ℕ). (let q : Point = record { cycle = p.cycle; load = n; uses = p.uses } in q)) (let e : p.load + taken_by p.cycle d ≡ p.load = omega (arith, none) in e)
+raised_none d p none = ap (λ n. (let q : Point = record { cycle = p.cycle; load = n; uses = p.uses } in q)) (let e : p.load + taken_by p.cycle d ≡ p.load = omega (arith, none) in e)
 
 -- a draw that is over as it begins is taken at no point
 pub raised_nowhere : (d : Draw) (points : List Point) → d.to ≤ d.from → points ≡ map (raised_by d) points
 raised_nowhere d [] over = refl
 raised_nowhere d (p ∷ points) over =
-    ap (λ (q : Point). q ∷ points) (sym (raised_none d p (never_taken d p.cycle over))) ∙ ap (λ (qs : List Point). raised_by d p ∷ qs) (raised_nowhere d points over)
+    ap (λ q. q ∷ points) (sym (raised_none d p (never_taken d p.cycle over))) ∙ ap (λ qs. raised_by d p ∷ qs) (raised_nowhere d points over)
 
 -- the points up to a place have a draw more than those of another list, and those from there on are the same
 pub record AreRaised (d : Draw) (low high : List Point) (place : ℕ) : Type 0 where
@@ -271,122 +260,107 @@ pub record AreRaised (d : Draw) (low high : List Point) (place : ℕ) : Type 0 w
   pub done : (k : ℕ) (e : Point) → k < place → k < length low → get_or high k e ≡ raised_by d (get_or low k e)
   pub rest : (k : ℕ) (e : Point) → place ≤ k → get_or high k e ≡ get_or low k e
 
-pub raised_all : (d : Draw) (low high : List Point) (place : ℕ) → AreRaised d low high place → ((k : ℕ) (e : Point) → place ≤ k → k < length low → d.to ≤ (get_or low k e).cycle) → high ≡ map (raised_by d) low
-raised_all d low high place are over = same_lists high (map (raised_by d) low) (sym are.long ∙ sym (length-map low (raised_by d))) each
-  where
-    each : (k : ℕ) (e : Point) → k < length high → get_or high k e ≡ get_or (map (raised_by d) low) k e
-    each k e lt =
-        let long = are.long in
-        let inside : k < length low = omega arith in
-        let there : get_or (map (raised_by d) low) k e ≡ raised_by d (get_or low k e) = get_or-map (raised_by d) low k e e inside in
-        elim (cases_lt k place) [
-          | inl before ↦ are.done k e before inside ∙ sym there
-          | inr after ↦ are.rest k e after ∙ sym (raised_none d (get_or low k e) (none_taken d (get_or low k e).cycle (inr (over k e after inside)))) ∙ sym there
-        ]
+module _ (d : Draw) (low high : List Point) (place : ℕ) (are : AreRaised d low high place) where
+  pub raised_all : ((k : ℕ) (e : Point) → place ≤ k → k < length low → d.to ≤ (get_or low k e).cycle) → high ≡ map (raised_by d) low
+  raised_all over = same_lists high (map (raised_by d) low) (sym are.long ∙ sym (length-map low (raised_by d))) each
+    where
+      each : (k : ℕ) (e : Point) → k < length high → get_or high k e ≡ get_or (map (raised_by d) low) k e
+      each k e lt =
+          let long = are.long in
+          let inside : k < length low = omega arith in
+          let there = get_or-map (raised_by d) low k e e inside in
+          elim (cases_lt k place) [
+            | inl before ↦ are.done k e before inside ∙ sym there
+            | inr after ↦ are.rest k e after ∙ sym (raised_none d (get_or low k e) (none_taken d (get_or low k e).cycle (inr (over k e after inside)))) ∙ sym there
+          ]
 
-pub lowered_more : (d : Draw) (low high : List Point) (place : ℕ) → AreRaised d low high place → place < length low → d.from ≤ (get_or high place no_point).cycle → (get_or high place no_point).cycle < d.to →
-    taken_by (get_or high place no_point).cycle d ≤ (get_or high place no_point).load →
-    AreRaised d (set low place (record { cycle = (get_or low place no_point).cycle; load = (get_or low place no_point).load - d.power; uses = (get_or low place no_point).uses })) high (place + 1)
-lowered_more d low high place are lt from to covers = record {
-  long = length-set low place new ∙ are.long;
-  done = (λ k e before inside. elim (cases_eq k place) [
-    | inl same ↦
-        (let old : get_or high place no_point ≡ get_or low place no_point = are.rest place no_point (omega arith) in
-        subst (λ (v : ℕ). get_or high v e ≡ raised_by d (get_or (set low place new) v e)) (sym same)
-        (any_default high place e no_point (let long = are.long in omega arith) ∙ here (get_or low place no_point) (get_or high place no_point) old from to covers ∙ ap (raised_by d) (sym (get_or-set_same low place new e lt))))
-    | inr apart ↦ are.done k e (omega (arith, before, apart)) (omega (arith, inside, length-set low place new)) ∙ ap (raised_by d) (sym (get_or-set_other low place k new e apart))
-  ]);
-  rest = (λ k e after. are.rest k e (omega arith) ∙ sym (get_or-set_other low place k new e (λ (same : k ≡ place). omega (arith, after, same))));
-}
-  where
-    new : Point
-    new = record { cycle = (get_or low place no_point).cycle; load = (get_or low place no_point).load - d.power; uses = (get_or low place no_point).uses }
+  pub lowered_more : place < length low → d.from ≤ (get_or high place no_point).cycle → (get_or high place no_point).cycle < d.to →
+      taken_by (get_or high place no_point).cycle d ≤ (get_or high place no_point).load →
+      AreRaised d (set low place (record { cycle = (get_or low place no_point).cycle; load = (get_or low place no_point).load - d.power; uses = (get_or low place no_point).uses })) high (place + 1)
+  lowered_more lt from to covers = record {
+    long = length-set low place new ∙ are.long;
+    done = (λ k e before inside. elim (cases_eq k place) [
+      | inl same ↦
+          (let old = are.rest place no_point (omega arith) in
+          rw same (any_default high place e no_point (let long = are.long in omega arith) ∙ here (get_or low place no_point) (get_or high place no_point) old from to covers ∙ ap (raised_by d) (sym (get_or-set_same low place new e lt))))
+      | inr apart ↦ are.done k e (omega (arith, before, apart)) (omega (arith, inside, length-set low place new)) ∙ ap (raised_by d) (sym (get_or-set_other low place k new e apart))
+    ]);
+    rest = (λ k e after. are.rest k e (omega arith) ∙ sym (get_or-set_other low place k new e (λ same. omega (arith, after, same))));
+  }
+    where
+      new : Point
+      new = record { cycle = (get_or low place no_point).cycle; load = (get_or low place no_point).load - d.power; uses = (get_or low place no_point).uses }
 
-    here : (l h : Point) → h ≡ l → d.from ≤ h.cycle → h.cycle < d.to → taken_by h.cycle d ≤ h.load → h ≡ raised_by d (let q : Point = record { cycle = l.cycle; load = l.load - d.power; uses = l.uses } in q)
-    here l h same f t c =
-        let taken = all_taken d h.cycle f t in
-        let load : h.load ≡ h.load - d.power + taken_by h.cycle d = omega (arith, taken, c) in
-        ap (λ (n : ℕ). (let q : Point = record { cycle = h.cycle; load = n; uses = h.uses } in q)) load ∙ ap (λ (p : Point). raised_by d (let q : Point = record { cycle = p.cycle; load = p.load - d.power; uses = p.uses } in q)) same
+      here : (l h : Point) → h ≡ l → d.from ≤ h.cycle → h.cycle < d.to → taken_by h.cycle d ≤ h.load → h ≡ raised_by d (let q : Point = record { cycle = l.cycle; load = l.load - d.power; uses = l.uses } in q)
+      here l h same f t c =
+          let load : h.load ≡ h.load - d.power + taken_by h.cycle d = omega (arith, all_taken d h.cycle f t, c) in
+          ap (λ n. (let q : Point = record { cycle = h.cycle; load = n; uses = h.uses } in q)) load ∙ ap (λ (p : Point). raised_by d (let q : Point = record { cycle = p.cycle; load = p.load - d.power; uses = p.uses } in q)) same
 
 -- where the points from a place on stand after a draw
 pub over_from : (points : List Point) (place to : ℕ) → IsNonDecreasingBy (λ (p : Point). p.cycle) points → (place < length points → to ≤ (get_or points place no_point).cycle) → (k : ℕ) (e : Point) → place ≤ k → k < length points → to ≤ (get_or points k e).cycle
 over_from points place to ordered over k e le lt =
-    let first : to ≤ (get_or points place no_point).cycle = over (omega arith) in
-    let later : (get_or points place no_point).cycle ≤ (get_or points k no_point).cycle = ordered place k no_point le lt in
+    let first = over (omega arith) in
+    let later = ordered place k no_point le lt in
     subst (λ (v : Point). to ≤ v.cycle) (any_default points k no_point e lt) (omega arith)
 
 -- the same, where the point at the place was read
 pub over_read : (points now : List Point) (place to : ℕ) (r : Point) → IsNonDecreasingBy (λ (p : Point). p.cycle) points → ((k : ℕ) (e : Point) → place ≤ k → get_or now k e ≡ get_or points k e) → r ≡ get_or now place r → to ≤ r.cycle →
     (k : ℕ) (e : Point) → place ≤ k → k < length points → to ≤ (get_or points k e).cycle
 over_read points now place to r ordered rest is late = over_from points place to ordered (λ lt.
-    let same : r ≡ get_or points place no_point = is ∙ rest place r (omega arith) ∙ any_default points place r no_point lt in
-    subst (λ (v : Point). to ≤ v.cycle) same late)
+    rw (is ∙ rest place r (omega arith) ∙ any_default points place r no_point lt) at late)
 
 pub over_low : (d : Draw) (low high : List Point) (place : ℕ) → AreRaised d low high place → ((k : ℕ) (e : Point) → place ≤ k → k < length high → d.to ≤ (get_or high k e).cycle) → (k : ℕ) (e : Point) → place ≤ k → k < length low → d.to ≤ (get_or low k e).cycle
-over_low d low high place are over k e le lt = subst (λ (v : Point). d.to ≤ v.cycle) (are.rest k e le) (over k e le (let long = are.long in omega arith))
+over_low d low high place are over k e le lt = rw (are.rest k e le) at (over k e le (let long = are.long in omega arith))
 
 -- ---- whole draws
 
-uses_raised : (d : Draw) (points : List Point) (c : ℕ) → sum_by (uses_at c) (map (raised_by d) points) ≡ sum_by (uses_at c) points
-uses_raised d [] c = refl
-uses_raised d (p ∷ points) c = omega (arith, sum_by-cons (uses_at c) (raised_by d p) (map (raised_by d) points), sum_by-cons (uses_at c) p points, uses_raised d points c)
+raised_cycle : (d : Draw) (points : List Point) (k : ℕ) (e : Point) → k < length points → (get_or (map (raised_by d) points) k e).cycle ≡ (get_or points k e).cycle
+raised_cycle d points k e lt = ap (λ (p : Point). p.cycle) (get_or-map (raised_by d) points k e e lt)
 
-all_raised : (d : Draw) (points : List Point) → all_uses (map (raised_by d) points) ≡ all_uses points
-all_raised d [] = refl
-all_raised d (p ∷ points) = omega (arith, sum_by-cons (λ (p : Point). p.uses) (raised_by d p) (map (raised_by d) points), sum_by-cons (λ (p : Point). p.uses) p points, all_raised d points)
+module _ (draws : List Draw) (cycles : List ℕ) (d : Draw) (low high : List Point) where
+  pub draw_added : ArePoints draws cycles low → high ≡ map (raised_by d) low → ArePoints (draws ++ d ∷ []) cycles high
+  draw_added are is = subst (ArePoints (draws ++ d ∷ []) cycles) (sym is) (record {
+    ordered = (λ i j e le lt.
+        let inside : j < length low = omega (arith, lt, length-map low (raised_by d)) in
+        omega (arith, raised_cycle d low i e (omega (arith, le, inside)), raised_cycle d low j e inside, are.ordered i j e le inside));
+    loads = All-map (λ (p : Point). p.load ≡ load_of (draws ++ d ∷ []) p.cycle) (raised_by d) low (λ k e lt.
+        omega (arith, are.loads k e lt, sum_by_push (taken_by (get_or low k e).cycle) draws d));
+    marks = (λ c. let old = are.marks c in omega (arith, old, sum_map (uses_at c) (raised_by d) low));
+    count = (let old = are.count in omega (arith, old, sum_map (λ (p : Point). p.uses) (raised_by d) low));
+  })
 
-pub draw_added : (draws : List Draw) (cycles : List ℕ) (d : Draw) (low high : List Point) → ArePoints draws cycles low → high ≡ map (raised_by d) low → ArePoints (draws ++ d ∷ []) cycles high
-draw_added draws cycles d low high are is = subst (ArePoints (draws ++ d ∷ []) cycles) (sym is) (record {
-  ordered = (λ i j e le lt.
-      let inside : j < length low = omega (arith, lt, length-map low (raised_by d)) in
-      let first : (get_or (map (raised_by d) low) i e).cycle ≡ (get_or low i e).cycle = ap (λ (p : Point). p.cycle) (get_or-map (raised_by d) low i e e (omega (arith, le, inside))) in
-      let second : (get_or (map (raised_by d) low) j e).cycle ≡ (get_or low j e).cycle = ap (λ (p : Point). p.cycle) (get_or-map (raised_by d) low j e e inside) in
-      let old : (get_or low i e).cycle ≤ (get_or low j e).cycle = are.ordered i j e le inside in
-      omega (arith, first, second, old));
-  loads = All-map (λ (p : Point). p.load ≡ load_of (draws ++ d ∷ []) p.cycle) (raised_by d) low (λ k e lt.
-      let old : (get_or low k e).load ≡ load_of draws (get_or low k e).cycle = are.loads k e lt in
-      omega (arith, old, sum_by_push (taken_by (get_or low k e).cycle) draws d));
-  marks = (λ c. let old = are.marks c in omega (arith, old, uses_raised d low c));
-  count = (let old = are.count in omega (arith, old, all_raised d low));
-})
+  pub draw_taken : ArePoints (draws ++ d ∷ []) cycles high → high ≡ map (raised_by d) low → ArePoints draws cycles low
+  draw_taken are' is = go (rw is at are')
+    where
+      go : ArePoints (draws ++ d ∷ []) cycles (map (raised_by d) low) → ArePoints draws cycles low
+      go are = record {
+        ordered = (λ i j e le lt.
+            omega (arith, raised_cycle d low i e (omega (arith, le, lt)), raised_cycle d low j e lt, are.ordered i j e le (omega (arith, lt, length-map low (raised_by d)))));
+        loads = (λ k e lt.
+            let inside : k < length (map (raised_by d) low) = omega (arith, lt, length-map low (raised_by d)) in
+            let old = rw (get_or-map (raised_by d) low k e e lt) at (are.loads k e inside) in
+            omega (arith, old, sum_by_push (taken_by (get_or low k e).cycle) draws d));
+        marks = (λ c. let old = are.marks c in omega (arith, old, sum_map (uses_at c) (raised_by d) low));
+        count = (let old = are.count in omega (arith, old, sum_map (λ (p : Point). p.uses) (raised_by d) low));
+      }
 
-pub draw_taken : (draws : List Draw) (cycles : List ℕ) (d : Draw) (low high : List Point) → ArePoints (draws ++ d ∷ []) cycles high → high ≡ map (raised_by d) low → ArePoints draws cycles low
-draw_taken draws cycles d low high are' is = go (subst (ArePoints (draws ++ d ∷ []) cycles) is are')
-  where
-    go : ArePoints (draws ++ d ∷ []) cycles (map (raised_by d) low) → ArePoints draws cycles low
-    go are = record {
-      ordered = (λ i j e le lt.
-          let inside : j < length (map (raised_by d) low) = omega (arith, lt, length-map low (raised_by d)) in
-          let first : (get_or (map (raised_by d) low) i e).cycle ≡ (get_or low i e).cycle = ap (λ (p : Point). p.cycle) (get_or-map (raised_by d) low i e e (omega (arith, le, lt))) in
-          let second : (get_or (map (raised_by d) low) j e).cycle ≡ (get_or low j e).cycle = ap (λ (p : Point). p.cycle) (get_or-map (raised_by d) low j e e lt) in
-          let old : (get_or (map (raised_by d) low) i e).cycle ≤ (get_or (map (raised_by d) low) j e).cycle = are.ordered i j e le inside in
-          omega (arith, first, second, old));
-      loads = (λ k e lt.
-          let inside : k < length (map (raised_by d) low) = omega (arith, lt, length-map low (raised_by d)) in
-          let there : get_or (map (raised_by d) low) k e ≡ raised_by d (get_or low k e) = get_or-map (raised_by d) low k e e lt in
-          let old : (raised_by d (get_or low k e)).load ≡ load_of (draws ++ d ∷ []) (raised_by d (get_or low k e)).cycle = subst (λ (p : Point). p.load ≡ load_of (draws ++ d ∷ []) p.cycle) there (are.loads k e inside) in
-          let old' : (get_or low k e).load + taken_by (get_or low k e).cycle d ≡ load_of (draws ++ d ∷ []) (get_or low k e).cycle = old in
-          omega (arith, old', sum_by_push (taken_by (get_or low k e).cycle) draws d));
-      marks = (λ c. let old = are.marks c in omega (arith, old, uses_raised d low c));
-      count = (let old = are.count in omega (arith, old, all_raised d low));
-    }
+module _ (draws : List Draw) (cycles : List ℕ) where
+  -- the loads have room for the next draw, and cover the last one
+  pub loads_fit : (at limit : ℕ) (e : Draw) (points : List Point) → at < length draws → ArePoints (take at draws) cycles points → ((c : ℕ) → load_of draws c ≤ limit) →
+      limit < 2 ^ 64 → All (λ (p : Point). p.load + taken_by p.cycle (get_or draws at e) < 2 ^ 64) points
+  loads_fit at limit e points lt are within small = λ k d inside.
+      let c = (get_or points k d).cycle in
+      let part = sum_by_more_le (taken_by c) draws at e lt in
+      omega (arith, are.loads k d inside, part, within c, small)
 
--- the loads have room for the next draw, and cover the last one
-pub loads_fit : (draws : List Draw) (cycles : List ℕ) (at limit : ℕ) (e : Draw) (points : List Point) → at < length draws → ArePoints (take at draws) cycles points → ((c : ℕ) → load_of draws c ≤ limit) → limit < 2 ^ 64 →
-    All (λ (p : Point). p.load + taken_by p.cycle (get_or draws at e) < 2 ^ 64) points
-loads_fit draws cycles at limit e points lt are within small = λ k d inside.
-    let c : ℕ = (get_or points k d).cycle in
-    let is : (get_or points k d).load ≡ load_of (take at draws) c = are.loads k d inside in
-    let part : load_of (take at draws) c + taken_by c (get_or draws at e) ≤ load_of draws c = sum_by_more_le (taken_by c) draws at e lt in
-    let whole = within c in
-    omega (arith, is, part, whole, small)
+  pub loads_cover : (d : Draw) (points : List Point) → ArePoints (draws ++ d ∷ []) cycles points → All (λ (p : Point). taken_by p.cycle d ≤ p.load) points
+  loads_cover d points are = λ k e lt. let is = are.loads k e lt in omega (arith, is, sum_by_push (taken_by (get_or points k e).cycle) draws d)
 
-pub loads_cover : (draws : List Draw) (cycles : List ℕ) (d : Draw) (points : List Point) → ArePoints (draws ++ d ∷ []) cycles points → All (λ (p : Point). taken_by p.cycle d ≤ p.load) points
-loads_cover draws cycles d points are = λ k e lt. let is = are.loads k e lt in omega (arith, is, sum_by_push (taken_by (get_or points k e).cycle) draws d)
+  -- with one of the draws that are listed
+  pub next_added : (at : ℕ) (d : Draw) (low high : List Point) → at < length draws → ArePoints (take at draws) cycles low → high ≡ map (raised_by (get_or draws at d)) low →
+      ArePoints (take (at + 1) draws) cycles high
+  next_added at d low high lt are is = rw (take_more draws at d lt) (draw_added (take at draws) cycles (get_or draws at d) low high are is)
 
--- with one of the draws that are listed
-pub next_added : (draws : List Draw) (cycles : List ℕ) (at : ℕ) (d : Draw) (low high : List Point) → at < length draws → ArePoints (take at draws) cycles low → high ≡ map (raised_by (get_or draws at d)) low → ArePoints (take (at + 1) draws) cycles high
-next_added draws cycles at d low high lt are is = subst (λ (v : List Draw). ArePoints v cycles high) (sym (take_more draws at d lt)) (draw_added (take at draws) cycles (get_or draws at d) low high are is)
-
-pub last_split : (draws : List Draw) (cycles : List ℕ) (at : ℕ) (d : Draw) (points : List Point) → at < length draws → ArePoints (take (at + 1) draws) cycles points → ArePoints (take at draws ++ get_or draws at d ∷ []) cycles points
-last_split draws cycles at d points lt are = subst (λ (v : List Draw). ArePoints v cycles points) (take_more draws at d lt) are
+  pub last_split : (at : ℕ) (d : Draw) (points : List Point) → at < length draws → ArePoints (take (at + 1) draws) cycles points →
+      ArePoints (take at draws ++ get_or draws at d ∷ []) cycles points
+  last_split at d points lt are = rw (take_more draws at d lt) at are

@@ -1,7 +1,6 @@
 -- Worked rows: the definitions, computed.
 use Rattle.std.proofs.Common.{◌≡◌, ℕ, Option, true, false, None, Some, List, [], ◌∷◌, map, refl}
-use Rattle.resource_table.specs.declared.Placement.{Placement}
-use Rattle.resource_table.specs.Jobs.{TestValue, JobValue}
+use Rattle.resource_table.specs.{declared.Placement.Placement, Jobs.TestValue, Jobs.JobValue}
 use Rattle.resource_table.specs.Schedules.{at_start, exclude, last_end, power_at, ready_at, is_placed}
 
 -- four self tests: the first draws less from cycle 4 on, and precedes the third, which is of a child of the second
@@ -33,7 +32,7 @@ placed_row : map (is_placed two_placed) (0 ∷ 1 ∷ 2 ∷ []) ≡ true ∷ true
 placed_row = refl
 
 -- a module, its direct parent and its grandparent
-module_row : map (λ (p : ℕ). exclude (sample_test p None 1 []) (sample_test 3 (Some 2) 1 [])) (1 ∷ 2 ∷ 3 ∷ []) ≡ false ∷ true ∷ true ∷ []
+module_row : map (λ p. exclude (sample_test p None 1 []) (sample_test 3 (Some 2) 1 [])) (1 ∷ 2 ∷ 3 ∷ []) ≡ false ∷ true ∷ true ∷ []
 module_row = refl
 
 abbrev over_bus : ℕ → ℕ → TestValue

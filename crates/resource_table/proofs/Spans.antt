@@ -1,14 +1,9 @@
 -- Times in the order of their starts, and timelines of them, with one time more or less.
 use Rattle.std.proofs.Common.{◌≡◌, ℕ, zero, suc, ◌+◌, ◌-◌, ◌<◌, ◌≤◌, inl, inr, Option, None, Some, List, [], ◌∷◌, length, take, get_or, set, arith, refl, sym, ap, ◌∙◌, subst}
-use Rattle.std.specs.Prelude.{slice_get, vec_capacity}
-use Rattle.std.specs.List.{All, AllWithin, remove}
-use Rattle.std.specs.List.Sorted.{IsNonDecreasingBy, IsPartitionPoint}
-use Rattle.std.proofs.lemmas.Bool.{cases_lt}
-use Rattle.std.proofs.lemmas.List.{length-set}
-use Rattle.std.proofs.lemmas.Option.{slice_get-get_or, slice_get_within, get_or_from_slice_get}
-use Rattle.std.proofs.lemmas.List.Edits.{get_or-remove_below, get_or-remove_above, length-remove}
-use Rattle.resource_table.specs.declared.timelines.Span.{Span}
-use Rattle.resource_table.specs.declared.timelines.Timeline.{Timeline}
+use Rattle.std.specs.{Prelude.slice_get, Prelude.vec_capacity, List.All, List.AllWithin, List.remove, List.Sorted.IsNonDecreasingBy, List.Sorted.IsPartitionPoint}
+use Rattle.std.proofs.lemmas.{Bool.cases_lt, Option.slice_get_within, Option.get_or_from_slice_get}
+use Rattle.std.proofs.lemmas.List.{length-set, Edits.get_or-remove_below, Edits.get_or-remove_above, Edits.length-remove}
+use Rattle.resource_table.specs.declared.timelines.{Span.Span, Timeline.Timeline}
 use Rattle.resource_table.specs.BusyTimes.{IsClear, IsPut, IsTaken, ArePut, AreTaken}
 use Rattle.common_lemmas.proofs.Lists.{set_here, slice_at, any_default}
 
@@ -25,26 +20,26 @@ taken_last [] zero le = refl
 taken_last [] (suc n) le = refl
 taken_last (x ∷ []) zero le = refl
 taken_last (x ∷ y ∷ xs) zero le = absurd (omega (arith, le))
-taken_last {X} (x ∷ xs) (suc n) le = ap (λ (v : List X). x ∷ v) (taken_last xs n (omega (arith, le)))
+taken_last {X} (x ∷ xs) (suc n) le = ap (λ v. x ∷ v) (taken_last xs n (omega (arith, le)))
 
 pub last_taken : {X : Type 0} (xs : List X) → remove xs (length xs - 1) ≡ take (length xs - 1) xs
 last_taken xs = taken_last xs (length xs - 1) (omega arith)
 
-some_same : (k j : ℕ) → (let a : Option ℕ = Some k in a) ≡ Some j → k ≡ j
+some_same : (k j : ℕ) → (let a = Some k in a) ≡ Some j → k ≡ j
 some_same k j e = cc
 
 -- what stands at one place is the same
 pub same_line : (lines : List Timeline) (place : Option ℕ) (at k : ℕ) (line other : Timeline) → place ≡ Some at → slice_get lines at ≡ Some line → place ≡ Some k → slice_get lines k ≡ Some other → other.spans.items ≡ line.spans.items
 same_line lines place at k line other is there is' there' =
-    let same : at ≡ k = some_same at k (sym is ∙ is') in
-    let here : slice_get lines k ≡ Some line = subst (λ (v : ℕ). slice_get lines v ≡ Some line) same there in
-    let both : (let a : Option Timeline = Some other in a) ≡ Some line = sym there' ∙ here in
+    let same = some_same at k (sym is ∙ is') in
+    let here = rw same at there in
+    let both = sym there' ∙ here in
     let one : other ≡ line = cc in
     ap (λ (v : Timeline). v.spans.items) one
 
 -- the last of an ordered list is no less than each
 pub last_most : {X : Type 0} (n : X → ℕ) (xs : List X) (k : ℕ) (d e : X) → IsNonDecreasingBy n xs → k < length xs → n (get_or xs k d) ≤ n (get_or xs (length xs - 1) e)
-last_most {X} n xs k d e up lt = subst (λ (x : X). n x ≤ n (get_or xs (length xs - 1) e)) (any_default xs k e d lt) (up k (length xs - 1) e (omega (arith, lt)) (omega (arith, lt)))
+last_most {X} n xs k d e up lt = rw (any_default xs k e d lt) at (up k (length xs - 1) e (omega (arith, lt)) (omega (arith, lt)))
 
 -- ---- one timeline of a list changes
 
@@ -54,17 +49,16 @@ module _ (lines : List Timeline) (place : Option ℕ) (at : ℕ) (was : Timeline
 
   this_line : (k : ℕ) (l : Timeline) → place ≡ Some k → slice_get (set lines at line) k ≡ Some l → (l ≡ line) × (slice_get lines k ≡ Some was)
   this_line k l here found =
-      let same : at ≡ k = some_same at k (sym is ∙ here) in
-      let new : slice_get (set lines at line) k ≡ Some line = subst (λ (v : ℕ). slice_get (set lines at line) v ≡ Some line) same (set_here lines at line (slice_get_within lines at was there)) in
-      let both : (let a : Option Timeline = Some l in a) ≡ Some line = sym found ∙ new in
-      (cc, subst (λ (v : ℕ). slice_get lines v ≡ Some was) same there)
+      let same = some_same at k (sym is ∙ here) in
+      let both = sym found ∙ (subst (λ v. slice_get (set lines at line) v ≡ Some line) same (set_here lines at line (slice_get_within lines at was there))) in
+      (cc, subst (λ v. slice_get lines v ≡ Some was) same there)
 
   pub line_put : (span : Span) → IsPut span was.spans.items line.spans.items → vec_capacity line.spans ≡ vec_capacity was.spans → ArePut place span lines (set lines at line)
   line_put span put room = record {
     long = length-set lines at line;
     others = other_line;
     here = (λ k l here found. let r = this_line k l here found in
-        (was, r.1, subst (λ (v : Timeline). IsPut span was.spans.items v.spans.items) (sym r.0) put, ap (λ (v : Timeline). vec_capacity v.spans) r.0 ∙ room));
+        (was, r.1, rw r.0 put, ap (λ (v : Timeline). vec_capacity v.spans) r.0 ∙ room));
   }
 
   pub line_taken : (span : Span) → IsTaken span was.spans.items line.spans.items → vec_capacity line.spans ≡ vec_capacity was.spans → AreTaken place span lines (set lines at line)
@@ -72,14 +66,14 @@ module _ (lines : List Timeline) (place : Option ℕ) (at : ℕ) (was : Timeline
     long = length-set lines at line;
     others = other_line;
     here = (λ k l here found. let r = this_line k l here found in
-        (was, r.1, subst (λ (v : Timeline). IsTaken span was.spans.items v.spans.items) (sym r.0) taken, ap (λ (v : Timeline). vec_capacity v.spans) r.0 ∙ room));
+        (was, r.1, rw r.0 taken, ap (λ (v : Timeline). vec_capacity v.spans) r.0 ∙ room));
   }
 
 pub none_taken : (lines : List Timeline) (place : Option ℕ) (span : Span) → place ≡ None → AreTaken place span lines lines
 none_taken lines place span none = record {
   long = refl;
   others = (λ k l apart found. found);
-  here = (λ k l here found. absurd (let never : (let a : Option ℕ = None in a) ≡ Some k = sym none ∙ here in cc));
+  here = (λ k l here found. absurd (let never = sym none ∙ here in cc));
 }
 
 -- ---- one time less
@@ -95,32 +89,33 @@ ordered_remove n xs i up lt a b d le less =
       ]
     ]
 
--- a time that stands in the list stands behind those that start before it
-pub stands_behind : (spans : List Span) (span : Span) (place at : ℕ) → AllWithin (λ (s : Span). s.from < span.from) spans 0 place → slice_get spans at ≡ Some span → place ≤ at
-stands_behind spans span place at before there = elim (cases_lt at place) [
-  | inr behind ↦ behind
-  | inl early ↦ absurd (let same = ap (λ (s : Span). s.from) (get_or_from_slice_get spans at span span there) in omega (arith, same, before at span (omega arith) early))
-]
+module _ (spans : List Span) where
+  -- a time that stands in the list stands behind those that start before it
+  pub stands_behind : (span : Span) (place at : ℕ) → AllWithin (λ (s : Span). s.from < span.from) spans 0 place → slice_get spans at ≡ Some span → place ≤ at
+  stands_behind span place at before there = elim (cases_lt at place) [
+    | inr behind ↦ behind
+    | inl early ↦ absurd (let same = ap (λ (s : Span). s.from) (get_or_from_slice_get spans at span span there) in omega (arith, same, before at span (omega arith) early))
+  ]
 
--- a time that is read, and starts and ends as another one does
-pub read_time : (spans : List Span) (k : ℕ) (read span : Span) → k < length spans → read ≡ get_or spans k read → read.from ≡ span.from → read.to ≡ span.to → slice_get spans k ≡ Some span
-read_time spans k read span lt is begin end = slice_at spans k read lt is ∙ ap Some (both read span begin end)
-  where
-    make : ℕ → ℕ → Span
-    make x y = record { from = x; to = y }
+  -- a time that is read, and starts and ends as another one does
+  pub read_time : (k : ℕ) (read span : Span) → k < length spans → read ≡ get_or spans k read → read.from ≡ span.from → read.to ≡ span.to → slice_get spans k ≡ Some span
+  read_time k read span lt is begin end = slice_at spans k read lt is ∙ ap Some (both read span begin end)
+    where
+      make : ℕ → ℕ → Span
+      make x y = record { from = x; to = y }
 
-    both : (a b : Span) → a.from ≡ b.from → a.to ≡ b.to → a ≡ b
-    both a b f t = ap (λ (v : ℕ). make v a.to) f ∙ ap (make b.from) t
+      both : (a b : Span) → a.from ≡ b.from → a.to ≡ b.to → a ≡ b
+      both a b f t = ap (λ v. make v a.to) f ∙ ap (make b.from) t
 
--- a time that starts no earlier than one that stands no earlier, and ends as it does, is that one
-pub same_time : (spans : List Span) (span read : Span) (place at : ℕ) → IsNonDecreasingBy (λ (s : Span). s.from) spans → AllWithin (λ (s : Span). span.from ≤ s.from) spans place (length spans) →
-    place ≤ at → slice_get spans at ≡ Some span → read ≡ get_or spans place read → read.to ≡ span.to → slice_get spans place ≡ Some span
-same_time spans span read place at up late le there is end =
-    let within : at < length spans = slice_get_within spans at span there in
-    let last = ap (λ (s : Span). s.from) (get_or_from_slice_get spans at span read there) in
-    let first = ap (λ (s : Span). s.from) is in
-    let begin : read.from ≡ span.from = omega (arith, up place at read le within, late place read (omega arith) (omega arith), last, first) in
-    read_time spans place read span (omega arith) is begin end
+  -- a time that starts no earlier than one that stands no earlier, and ends as it does, is that one
+  pub same_time : (span read : Span) (place at : ℕ) → IsNonDecreasingBy (λ (s : Span). s.from) spans → AllWithin (λ (s : Span). span.from ≤ s.from) spans place (length spans) →
+      place ≤ at → slice_get spans at ≡ Some span → read ≡ get_or spans place read → read.to ≡ span.to → slice_get spans place ≡ Some span
+  same_time span read place at up late le there is end =
+      let within = slice_get_within spans at span there in
+      let last = ap (λ (s : Span). s.from) (get_or_from_slice_get spans at span read there) in
+      let first = ap (λ (s : Span). s.from) is in
+      let begin : read.from ≡ span.from = omega (arith, up place at read le within, late place read (omega arith) (omega arith), last, first) in
+      read_time place read span (omega arith) is begin end
 
 -- ---- the first start behind times that have ended
 

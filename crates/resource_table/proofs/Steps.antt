@@ -1,10 +1,9 @@
 -- The power of a test, step by step.
 use Rattle.std.proofs.Common.{◌≡◌, ℕ, zero, suc, ◌+◌, ◌-◌, ◌<◌, ◌≤◌, inl, inr, List, [], ◌∷◌, length, drop, get_or, arith, refl, sym, ◌∙◌, add-one, drop-cons, subst}
-use Rattle.std.proofs.lemmas.Bool.{cases_lt, le-leb, lt-leb, lt-ltb}
+use Rattle.std.proofs.lemmas.Bool.{cases_lt, le-leb, lt-leb}
 use Rattle.std.proofs.lemmas.List.Sums.{sum_by-cons}
-use Rattle.plan_model.specs.Plans.{step_power}
-use Rattle.plan_model.specs.SoundLimits.{Grow}
-use Rattle.resource_table.specs.declared.power.Draw.{Draw}
+use Rattle.plan_model.specs.{Plans.step_power, SoundLimits.Grow}
+use Rattle.resource_table.{specs.declared.power.Draw.Draw, proofs.Profiles.none_taken, proofs.Profiles.all_taken}
 use Rattle.resource_table.specs.Resources.{taken_by, load_of, step_end, draws_from, StepsFit, StepFits}
 
 -- before the first step nothing changes
@@ -14,14 +13,15 @@ step_late from r now (s ∷ steps) grow h =
     let later : r < s.0 = omega (arith, grow.0) in
     rw (lt-leb s.0 r later) (step_late (s.0 + 1) r now steps grow.1 (omega arith))
 
--- a step that has begun
-pub step_begun : (r now : ℕ) (s : ℕ × ℕ) (steps : List (ℕ × ℕ)) → s.0 ≤ r → step_power r now (s ∷ steps) ≡ step_power r s.1 steps
-step_begun r now s steps h = rw (le-leb s.0 r h) refl
+module _ (r now : ℕ) where
+  -- a step that has begun
+  pub step_begun : (s : ℕ × ℕ) (steps : List (ℕ × ℕ)) → s.0 ≤ r → step_power r now (s ∷ steps) ≡ step_power r s.1 steps
+  step_begun s steps h = rw (le-leb s.0 r h) refl
 
--- it draws its power until it ends
-pub step_holds : (r now length : ℕ) (s : ℕ × ℕ) (next : List (ℕ × ℕ)) → Grow (s.0 + 1) next → s.0 ≤ r → r < step_end length next → step_power r now (s ∷ next) ≡ s.1
-step_holds r now length s [] grow h lt = step_begun r now s [] h
-step_holds r now length s (t ∷ next) grow h lt = step_begun r now s (t ∷ next) h ∙ step_late t.0 r s.1 (t ∷ next) (omega arith, grow.1) (omega arith)
+  -- it draws its power until it ends
+  pub step_holds : (length : ℕ) (s : ℕ × ℕ) (next : List (ℕ × ℕ)) → Grow (s.0 + 1) next → s.0 ≤ r → r < step_end length next → step_power r now (s ∷ next) ≡ s.1
+  step_holds length s [] grow h lt = step_begun s [] h
+  step_holds length s (t ∷ next) grow h lt = step_begun s (t ∷ next) h ∙ step_late t.0 r s.1 (t ∷ next) (omega arith, grow.1) (omega arith)
 
 pub step_end-le : (length : ℕ) (next : List (ℕ × ℕ)) → step_end length next ≤ length
 step_end-le length [] = omega arith
@@ -29,117 +29,109 @@ step_end-le length (t ∷ next) = omega arith
 
 -- ---- steps that fit, and the test at each of its cycles
 
-pub cycles_from_steps : (load : ℕ → ℕ) (most start length from : ℕ) (s : ℕ × ℕ) (next : List (ℕ × ℕ)) → Grow from (s ∷ next) → StepsFit load most start length (s ∷ next) →
-    (r now : ℕ) → s.0 ≤ r → r < length → load (start + r) + step_power r now (s ∷ next) ≤ most
-cycles_from_steps load most start length from s [] grow fit r now h lt =
-    rw (step_begun r now s [] h) (fit.0 (start + r) (omega arith) (omega arith))
-cycles_from_steps load most start length from s (t ∷ next) grow fit r now h lt = elim (cases_lt r t.0) [
-  | inl early ↦ rw (step_holds r now length s (t ∷ next) grow.1 h (omega arith)) (fit.0 (start + r) (omega arith) (omega arith))
-  | inr late ↦ rw (step_begun r now s (t ∷ next) h) (cycles_from_steps load most start length (s.0 + 1) t next grow.1 fit.1 r s.1 late lt)
-]
+module _ (load : ℕ → ℕ) (most start length : ℕ) where
+  pub cycles_from_steps : (from : ℕ) (s : ℕ × ℕ) (next : List (ℕ × ℕ)) → Grow from (s ∷ next) → StepsFit load most start length (s ∷ next) → (r now : ℕ) → s.0 ≤ r → r < length →
+      load (start + r) + step_power r now (s ∷ next) ≤ most
+  cycles_from_steps from s [] grow fit r now h lt =
+      rw (step_begun r now s [] h) (fit.0 (start + r) (omega arith) (omega arith))
+  cycles_from_steps from s (t ∷ next) grow fit r now h lt = elim (cases_lt r t.0) [
+    | inl early ↦ rw (step_holds r now length s (t ∷ next) grow.1 h (omega arith)) (fit.0 (start + r) (omega arith) (omega arith))
+    | inr late ↦ rw (step_begun r now s (t ∷ next) h) (cycles_from_steps (s.0 + 1) t next grow.1 fit.1 r s.1 late lt)
+  ]
 
-window : (load : ℕ → ℕ) (most start length now : ℕ) (s : ℕ × ℕ) (next : List (ℕ × ℕ)) → Grow (s.0 + 1) next →
-    ((r : ℕ) → s.0 ≤ r → r < length → load (start + r) + step_power r now (s ∷ next) ≤ most) → (c : ℕ) → start + s.0 ≤ c → c < start + step_end length next → load c + s.1 ≤ most
-window load most start length now s next grow fit c h lt =
-    let r : ℕ = c - start in
-    let c_is : start + r ≡ c = omega arith in
-    let end = step_end-le length next in
-    let here : load (start + r) + step_power r now (s ∷ next) ≤ most = fit r (omega arith) (omega arith) in
-    let holds : step_power r now (s ∷ next) ≡ s.1 = step_holds r now length s next grow (omega arith) (omega arith) in
-    let total : load (start + r) + s.1 ≤ most = rw holds at here in
-    rw c_is at total
+  window : (now : ℕ) (s : ℕ × ℕ) (next : List (ℕ × ℕ)) → Grow (s.0 + 1) next → ((r : ℕ) → s.0 ≤ r → r < length → load (start + r) + step_power r now (s ∷ next) ≤ most) →
+      (c : ℕ) → start + s.0 ≤ c → c < start + step_end length next → load c + s.1 ≤ most
+  window now s next grow fit c h lt =
+      let r = c - start in
+      let c_is : start + r ≡ c = omega arith in
+      let end = step_end-le length next in
+      let total = rw (step_holds r now length s next grow (omega arith) (omega arith)) at (fit r (omega arith) (omega arith)) in
+      rw c_is at total
 
-pub steps_from_cycles : (load : ℕ → ℕ) (most start length from now : ℕ) (s : ℕ × ℕ) (next : List (ℕ × ℕ)) → Grow from (s ∷ next) →
-    ((r : ℕ) → s.0 ≤ r → r < length → load (start + r) + step_power r now (s ∷ next) ≤ most) → StepsFit load most start length (s ∷ next)
-steps_from_cycles load most start length from now s [] grow fit = (window load most start length now s [] grow.1 fit, tt)
-steps_from_cycles load most start length from now s (t ∷ next) grow fit = (
-  window load most start length now s (t ∷ next) grow.1 fit,
-  steps_from_cycles load most start length (s.0 + 1) s.1 t next grow.1 (λ r h lt. let early : s.0 ≤ r = omega (arith, grow.1.0) in rw (step_begun r now s (t ∷ next) early) at (fit r early lt)),
-)
+  pub steps_from_cycles : (from now : ℕ) (s : ℕ × ℕ) (next : List (ℕ × ℕ)) → Grow from (s ∷ next) →
+      ((r : ℕ) → s.0 ≤ r → r < length → load (start + r) + step_power r now (s ∷ next) ≤ most) → StepsFit load most start length (s ∷ next)
+  steps_from_cycles from now s [] grow fit = (window now s [] grow.1 fit, tt)
+  steps_from_cycles from now s (t ∷ next) grow fit = (
+    window now s (t ∷ next) grow.1 fit,
+    steps_from_cycles (s.0 + 1) s.1 t next grow.1 (λ r h lt. let early : s.0 ≤ r = omega (arith, grow.1.0) in rw (step_begun r now s (t ∷ next) early) at (fit r early lt)),
+  )
 
 -- ---- the draws of a test
 
--- nothing before the first step
-pub draws_before : (start length from c : ℕ) (steps : List (ℕ × ℕ)) → Grow from steps → c < start + from → load_of (draws_from start length steps) c ≡ 0
-draws_before start length from c [] grow h = refl
-draws_before start length from c (s ∷ next) grow h =
-    let later : c < start + s.0 = omega (arith, grow.0) in
-    let d : Draw = record { from = start + s.0; to = start + step_end length next; power = s.1 } in
-    let none : taken_by c d ≡ 0 = rw (lt-leb (start + s.0) c later) refl in
-    omega (arith, sum_by-cons (taken_by c) d (draws_from start length next), none, draws_before start length (s.0 + 1) c next grow.1 (omega arith))
+module _ (start length : ℕ) where
+  -- nothing before the first step
+  pub draws_before : (from c : ℕ) (steps : List (ℕ × ℕ)) → Grow from steps → c < start + from → load_of (draws_from start length steps) c ≡ 0
+  draws_before from c [] grow h = refl
+  draws_before from c (s ∷ next) grow h =
+      let later : c < start + s.0 = omega (arith, grow.0) in
+      let d : Draw = record { from = start + s.0; to = start + step_end length next; power = s.1 } in
+      let none : taken_by c d ≡ 0 = rw (lt-leb (start + s.0) c later) refl in
+      omega (arith, sum_by-cons (taken_by c) d (draws_from start length next), none, draws_before (s.0 + 1) c next grow.1 (omega arith))
 
--- and nothing after the test
-pub draws_after : (start length c : ℕ) (steps : List (ℕ × ℕ)) → start + length ≤ c → load_of (draws_from start length steps) c ≡ 0
-draws_after start length c [] h = refl
-draws_after start length c (s ∷ next) h =
-    let d : Draw = record { from = start + s.0; to = start + step_end length next; power = s.1 } in
-    let end = step_end-le length next in
-    let none : taken_by c d ≡ 0 = over d (omega arith) in
-    omega (arith, sum_by-cons (taken_by c) d (draws_from start length next), none, draws_after start length c next h)
-  where
-    over : (d : Draw) → d.to ≤ c → taken_by c d ≡ 0
-    over d le = grind (arith, le)
-
-taken : (d : Draw) (c : ℕ) → d.from ≤ c → c < d.to → taken_by c d ≡ d.power
-taken d c h lt = rw (le-leb d.from c h, lt-ltb c d.to lt) refl
-
-ended : (d : Draw) (c : ℕ) → d.to ≤ c → taken_by c d ≡ 0
-ended d c le = grind (arith, le)
+  -- and nothing after the test
+  pub draws_after : (c : ℕ) (steps : List (ℕ × ℕ)) → start + length ≤ c → load_of (draws_from start length steps) c ≡ 0
+  draws_after c [] h = refl
+  draws_after c (s ∷ next) h =
+      let d : Draw = record { from = start + s.0; to = start + step_end length next; power = s.1 } in
+      let end = step_end-le length next in
+      omega (arith, sum_by-cons (taken_by c) d (draws_from start length next), none_taken d c (inr (omega arith)), draws_after c next h)
 
 -- in between, the power of the step
 pub draws_at : (start length from : ℕ) (s : ℕ × ℕ) (next : List (ℕ × ℕ)) → Grow from (s ∷ next) → (r now : ℕ) → s.0 ≤ r → r < length →
     load_of (draws_from start length (s ∷ next)) (start + r) ≡ step_power r now (s ∷ next)
 draws_at start length from s [] grow r now h lt =
     let d : Draw = record { from = start + s.0; to = start + length; power = s.1 } in
-    let here : taken_by (start + r) d ≡ s.1 = taken d (start + r) (omega arith) (omega arith) in
-    rw (step_begun r now s [] h) (omega (arith, sum_by-cons (taken_by (start + r)) d [], here))
+    rw (step_begun r now s [] h) (omega (arith, sum_by-cons (taken_by (start + r)) d [], all_taken d (start + r) (omega arith) (omega arith)))
 draws_at start length from s (t ∷ next) grow r now h lt =
     let d : Draw = record { from = start + s.0; to = start + step_end length (t ∷ next); power = s.1 } in
-    let split : load_of (draws_from start length (s ∷ t ∷ next)) (start + r) ≡ taken_by (start + r) d + load_of (draws_from start length (t ∷ next)) (start + r) = sum_by-cons (taken_by (start + r)) d (draws_from start length (t ∷ next)) in
+    let split = sum_by-cons (taken_by (start + r)) d (draws_from start length (t ∷ next)) in
     elim (cases_lt r t.0) [
       | inl early ↦
-          let here : taken_by (start + r) d ≡ s.1 = taken d (start + r) (omega arith) (omega arith) in
-          let none : load_of (draws_from start length (t ∷ next)) (start + r) ≡ 0 = draws_before start length t.0 (start + r) (t ∷ next) (omega arith, grow.1.1) (omega arith) in
+          let here = all_taken d (start + r) (omega arith) (omega arith) in
+          let none = draws_before start length t.0 (start + r) (t ∷ next) (omega arith, grow.1.1) (omega arith) in
           rw (step_holds r now length s (t ∷ next) grow.1 h (omega arith)) (omega arith)
       | inr late ↦
-          let over : taken_by (start + r) d ≡ 0 = ended d (start + r) (omega arith) in
-          let rest : load_of (draws_from start length (t ∷ next)) (start + r) ≡ step_power r s.1 (t ∷ next) = draws_at start length (s.0 + 1) t next grow.1 r s.1 late lt in
+          let over = none_taken d (start + r) (inr (omega arith)) in
+          let rest = draws_at start length (s.0 + 1) t next grow.1 r s.1 late lt in
           rw (step_begun r now s (t ∷ next) h) (omega arith)
     ]
 
 -- ---- the search for a start
 
-pub steps_fit-drop : (load : ℕ → ℕ) (most start length i : ℕ) (steps : List (ℕ × ℕ)) → StepsFit load most start length steps → StepsFit load most start length (drop i steps)
-steps_fit-drop load most start length zero steps fit = fit
-steps_fit-drop load most start length (suc i) [] fit = tt
-steps_fit-drop load most start length (suc i) (s ∷ steps) fit = steps_fit-drop load most start length i steps fit.1
+module _ (load : ℕ → ℕ) where
+  pub steps_fit-drop : (most start length i : ℕ) (steps : List (ℕ × ℕ)) → StepsFit load most start length steps → StepsFit load most start length (drop i steps)
+  steps_fit-drop most start length zero steps fit = fit
+  steps_fit-drop most start length (suc i) [] fit = tt
+  steps_fit-drop most start length (suc i) (s ∷ steps) fit = steps_fit-drop most start length i steps fit.1
 
--- the load in the window of the step at a place
-pub window_at : (load : ℕ → ℕ) (limit other length' at : ℕ) (steps : List (ℕ × ℕ)) → at < length steps → StepsFit load limit other length' steps →
-    (c : ℕ) → other + (get_or steps at (0, 0)).0 ≤ c → c < other + step_end length' (drop (at + 1) steps) → load c + (get_or steps at (0, 0)).1 ≤ limit
-window_at load limit other length' at steps lt fit =
-    let parts : drop at steps ≡ get_or steps at (0, 0) ∷ drop (at + 1) steps = rw (add-one, drop-cons steps at (0, 0)) refl in
-    let here : StepsFit load limit other length' (get_or steps at (0, 0) ∷ drop (at + 1) steps) = subst (StepsFit load limit other length') parts (steps_fit-drop load limit other length' at steps fit) in
-    here.0
+  -- the load in the window of the step at a place
+  pub window_at : (limit other length' at : ℕ) (steps : List (ℕ × ℕ)) → at < length steps → StepsFit load limit other length' steps → (c : ℕ) →
+      other + (get_or steps at (0, 0)).0 ≤ c → c < other + step_end length' (drop (at + 1) steps) → load c + (get_or steps at (0, 0)).1 ≤ limit
+  window_at limit other length' at steps lt fit =
+      let parts : drop at steps ≡ get_or steps at (0, 0) ∷ drop (at + 1) steps = rw (add-one, drop-cons steps at (0, 0)) refl in
+      let here = rw parts at (steps_fit-drop limit other length' at steps fit) in
+      here.0
 
--- one step more
-pub steps_fit_more : (load : ℕ → ℕ) (limit start length' at : ℕ) (steps : List (ℕ × ℕ)) → at < length steps →
-    ((c : ℕ) → start + (get_or steps at (0, 0)).0 ≤ c → c < start + step_end length' (drop (at + 1) steps) → load c + (get_or steps at (0, 0)).1 ≤ limit) →
-    StepsFit load limit start length' (drop (at + 1) steps) → StepsFit load limit start length' (drop at steps)
-steps_fit_more load limit start length' at steps lt here rest =
-    let parts : drop at steps ≡ get_or steps at (0, 0) ∷ drop (at + 1) steps = rw (add-one, drop-cons steps at (0, 0)) refl in
-    subst (StepsFit load limit start length') (sym parts) (here, rest)
+module _ (load : ℕ → ℕ) (limit start length' : ℕ) where
+  -- one step more
+  pub steps_fit_more : (at : ℕ) (steps : List (ℕ × ℕ)) → at < length steps →
+      ((c : ℕ) → start + (get_or steps at (0, 0)).0 ≤ c → c < start + step_end length' (drop (at + 1) steps) → load c + (get_or steps at (0, 0)).1 ≤ limit) →
+      StepsFit load limit start length' (drop (at + 1) steps) → StepsFit load limit start length' (drop at steps)
+  steps_fit_more at steps lt here rest =
+      let parts : drop at steps ≡ get_or steps at (0, 0) ∷ drop (at + 1) steps = rw (add-one, drop-cons steps at (0, 0)) refl in
+      subst (StepsFit load limit start length') (sym parts) (here, rest)
 
--- no step is left past the last
-pub steps_fit_end : (load : ℕ → ℕ) (limit start length' at : ℕ) (steps : List (ℕ × ℕ)) → length steps ≤ at → StepsFit load limit start length' (drop at steps)
-steps_fit_end load limit start length' zero [] le = tt
-steps_fit_end load limit start length' (suc at) [] le = tt
-steps_fit_end load limit start length' zero (s ∷ steps) le = absurd (omega arith)
-steps_fit_end load limit start length' (suc at) (s ∷ steps) le = steps_fit_end load limit start length' at steps (omega arith)
+  -- no step is left past the last
+  pub steps_fit_end : (at : ℕ) (steps : List (ℕ × ℕ)) → length steps ≤ at → StepsFit load limit start length' (drop at steps)
+  steps_fit_end zero [] le = tt
+  steps_fit_end (suc at) [] le = tt
+  steps_fit_end zero (s ∷ steps) le = absurd (omega arith)
+  steps_fit_end (suc at) (s ∷ steps) le = steps_fit_end at steps (omega arith)
 
--- the steps from a place on fit where each of them does
-pub steps_fit_all : (load : ℕ → ℕ) (limit start length' n at : ℕ) (steps : List (ℕ × ℕ)) → at + n ≡ length steps → ((k : ℕ) → at ≤ k → k < length steps → StepFits load limit start length' k steps) → StepsFit load limit start length' (drop at steps)
-steps_fit_all load limit start length' zero at steps ends each = steps_fit_end load limit start length' at steps (omega (arith, ends))
-steps_fit_all load limit start length' (suc n) at steps ends each =
-    steps_fit_more load limit start length' at steps (omega (arith, ends)) (each at (omega arith) (omega (arith, ends)))
-    (steps_fit_all load limit start length' n (at + 1) steps (omega (arith, ends)) (λ k low lt. each k (omega (arith, low)) lt))
+  -- the steps from a place on fit where each of them does
+  pub steps_fit_all : (n at : ℕ) (steps : List (ℕ × ℕ)) → at + n ≡ length steps → ((k : ℕ) → at ≤ k → k < length steps → StepFits load limit start length' k steps) →
+      StepsFit load limit start length' (drop at steps)
+  steps_fit_all zero at steps ends each = steps_fit_end at steps (omega (arith, ends))
+  steps_fit_all (suc n) at steps ends each =
+      steps_fit_more at steps (omega (arith, ends)) (each at (omega arith) (omega (arith, ends)))
+      (steps_fit_all n (at + 1) steps (omega (arith, ends)) (λ k low lt. each k (omega (arith, low)) lt))

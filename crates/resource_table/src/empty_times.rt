@@ -105,7 +105,7 @@ fn timelines_of_rooms(alloc: Global, rooms: &[usize]) -> Result<Vec<Timeline>, N
     Ok(lines)
 }
 
-/// The same room, `count` times.
+/// One room, `count` times.
 fn equal_rooms(alloc: Global, room: usize, count: usize) -> Result<Vec<usize>, NoMemory>
     ensures { IfOk result (λ rooms. rooms.items ≡ replicate count room) }
 {

@@ -1,6 +1,5 @@
 -- The text of a plan with the data of a content is that of its vectors.
-use Rattle.std.proofs.Common.{◌≡◌, Bool, true, false, Some, sym, subst}
-use Rattle.std.specs.Prelude.{slice_get}
+use Rattle.std.proofs.Common.{◌≡◌, Bool, true, false, Some, sym, subst, slice_get}
 use Rattle.std.specs.List.{range_with_len}
 use Rattle.soc_model.specs.Chips.{SocValue}
 use Rattle.soc_model.specs.SoundChips.{IsSoundChip}

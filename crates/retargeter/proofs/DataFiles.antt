@@ -1,10 +1,8 @@
 -- Files with test data: what is answered of them, and that they say one thing.
-use Rattle.std.proofs.Common.{◌≡◌, ◌∙◌, ℕ, ◌≤◌, inl, inr, List, Option, None, Some, Result, Ok, Err, IfOk, length, refl, ap, sym, subst}
-use Rattle.std.specs.Prelude.{IsTrue}
+use Rattle.std.proofs.Common.{◌≡◌, ◌∙◌, ℕ, ◌≤◌, inl, inr, List, Option, None, Some, Result, Ok, Err, IfOk, length, refl, ap, sym, subst, IsTrue}
 use Rattle.std.specs.Global.{Vec}
 use Rattle.std.proofs.lemmas.Option.{same_Some}
 use Rattle.outside.specs.declared.NoMemory.{NoMemory as MemoryFault}
-use Rattle.outside.specs.declared.shelf.Loaded.TheVariants as loaded
 use Rattle.outside.specs.Grammars.{last_line}
 use Rattle.outside.specs.Held.{Files, WhereTold}
 use Rattle.outside.specs.Words.{words_of}
@@ -12,7 +10,6 @@ use Rattle.outside.proofs.Refusals.{not_refused, refused_once}
 use Rattle.soc_model.specs.Chips.{SocValue}
 use Rattle.soc_model.specs.SoundChips.{IsSoundChip}
 use Rattle.test_data.specs.declared.DataFault.{DataFault}
-use Rattle.test_data.specs.declared.DataFault.TheVariants as data_fault
 use Rattle.test_data.specs.declared.Misfit.{Misfit}
 use Rattle.test_data.specs.Agreement.{Suits}
 use Rattle.test_data.specs.DataAnswers.{IsReadData}
@@ -34,6 +31,8 @@ use Rattle.commands.proofs.Judged.{JudgedLaws, judged_one, judged_refused_one}
 use Rattle.commands.proofs.LoadStages.{any_refusal, refused_alone, stops}
 use Rattle.retargeter.specs.Readings.{SaysSuiting, RefusesData, with_data, RefusesFault, AnswersSuiting, LoadsSuiting, LoadsData}
 use Rattle.retargeter.specs.Texts.{data_line, misfit_line}
+use Rattle.outside.specs.declared.shelf.Loaded.TheVariants as loaded
+use Rattle.test_data.specs.declared.DataFault.TheVariants as data_fault
 
 -- ---- what shows that data doesn't suit
 

@@ -1,7 +1,5 @@
 -- What a plan with test data drives and reads: the bits of the data.
-use Rattle.std.proofs.Common.{◌≡◌, ◌⊎◌, inl, inr, ℕ, ◌-◌, ◌≤◌, ◌<◌, true, Some, List, [], length, get_or, reverse, ap, sym, subst, ◌∙◌, arith}
-use Rattle.std.specs.Prelude.{slice_get}
-use Rattle.std.specs.List.{Contains}
+use Rattle.std.proofs.Common.{◌≡◌, ◌⊎◌, inl, inr, ℕ, ◌-◌, ◌≤◌, ◌<◌, true, Some, List, [], length, get_or, reverse, ap, sym, subst, ◌∙◌, arith, slice_get, Contains}
 use Rattle.std.proofs.lemmas.List.{get_or_past, length-reverse}
 use Rattle.std.proofs.lemmas.List.Sums.{count_by-le-length}
 use Rattle.std.proofs.lemmas.Bool.{cases_lt}

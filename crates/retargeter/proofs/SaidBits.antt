@@ -1,6 +1,5 @@
 -- The bytes of a word of the data are those of its contents, and these stand for the data's content on a chip.
-use Rattle.std.proofs.Common.{◌≡◌, ℕ, true, List, [], get_or, length, position, None, Some, refl, ap, sym, ◌∙◌, arith}
-use Rattle.std.specs.Prelude.{slice_get}
+use Rattle.std.proofs.Common.{◌≡◌, ℕ, true, List, [], get_or, length, position, None, Some, refl, ap, sym, ◌∙◌, arith, slice_get}
 use Rattle.std.proofs.lemmas.List.Sums.{position_or_len_is}
 use Rattle.std.proofs.lemmas.Option.{slice_get-get_or}
 use Rattle.soc_model.specs.declared.TestId.{TestId}

@@ -7,7 +7,8 @@ ghost use Rattle.plan_model.specs.Views.{plan_value};
 ghost use Rattle.bit_machine.specs.Chips.{wires_of};
 ghost use Rattle.commands.specs.Ends.{WritesUnless, MakesPuts};
 ghost use Rattle.retargeter.specs.DataTexts.{retarget_text};
-ghost use Rattle.retargeter.specs.Endings.{IsRunnable, WritesEnding, PutsEnding};
+ghost use Rattle.commands.specs.Endings.{WritesEnding, PutsEnding};
+ghost use Rattle.retargeter.specs.Endings.{ending_value};
 
 use crate::contents::DataContents;
 use commands::{Accepted, Status, Verdict, write_verdict};
@@ -51,18 +52,31 @@ fn write_run<K: Sink>(
     }
 }
 
+/// Writes the vectors of a plan that is accepted, with the contents of test data.
+fn write_accepted<K: Sink>(
+    alloc: Global,
+    all: &Accepted,
+    test_data: &TestData,
+    out: &mut K,
+) -> Status
+    ensures faults_never_fall { K.faults out.old ≤ K.faults out.new }
+    ensures written { WritesUnless None (retarget_text all.now.soc all.now.plan test_data.now)
+        (K.faults out.old) (K.faults out.new) (K.written out.old) result (K.written out.new) }
+    ensures puts { MakesPuts K.is_put out.old result out.new }
+{
+    good_without_limits();
+    write_run(alloc, &all.soc, &all.plan, test_data, out)
+}
+
 /// Writes what a call ends with, and answers its status.
 pub fn write_ending<K: Sink>(alloc: Global, ending: Ending, out: &mut K) -> Status
-    requires { IsRunnable ending }
     ensures faults_never_fall { K.faults out.old ≤ K.faults out.new }
-    ensures written { WritesEnding ending (K.faults out.old) (K.faults out.new) (K.written out.old) result (K.written out.new) }
-    ensures puts { PutsEnding K.is_put ending out.old result out.new }
+    ensures written { WritesEnding (ending_value ending) (K.faults out.old) (K.faults out.new) (K.written out.old) result
+        (K.written out.new) }
+    ensures puts { PutsEnding K.is_put (ending_value ending) out.old result out.new }
 {
     match ending {
         Ending::Decided(verdict) => write_verdict(verdict, out),
-        Ending::Run { all, test_data } => {
-            good_without_limits();
-            write_run(alloc, &all.soc, &all.plan, &test_data, out)
-        }
+        Ending::Run { all, test_data } => { write_accepted(alloc, &all, &test_data, out) }
     }
 }

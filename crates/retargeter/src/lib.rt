@@ -19,7 +19,7 @@ pub use laws::{
     data_files_say_one_thing, data_of_contents_gives_vectors, full_data_gives_vectors,
     retargeted_texts_run_right,
 };
-pub use loading::load_suiting;
+pub use loading::{load_suiting, long_run};
 pub use top::retarget;
 
 /// The cycles of a run with test data times its wires, at most. A plan without wires counts as one of one wire.

@@ -152,7 +152,7 @@ impl Rig {
         self.puts.set(words)
     }
 
-    /// The same of the second output.
+    /// What the second output of the runs from here on is like.
     pub fn set_second_output(&mut self, words: &str) -> Result<(), NoMemory> {
         self.reports.set(words)
     }

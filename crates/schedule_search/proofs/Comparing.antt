@@ -1,7 +1,5 @@
 -- Tests are compared by their cycles and places, and orders by the first place where they differ.
-use Rattle.std.proofs.Common.{◌≡◌, ◌⊎◌, inl, inr, ℕ, zero, suc, ◌<◌, ◌≤◌, true, false, Some, List, [], ◌∷◌, ◌++◌, length, get_or, take, refl, sym, ap, arith}
-use Rattle.std.specs.Prelude.{nat_lt, nat_eq, slice_get, ◌||◌, ◌&&◌}
-use Rattle.std.specs.List.{All, insert}
+use Rattle.std.proofs.Common.{◌≡◌, ◌⊎◌, inl, inr, ℕ, zero, suc, ◌<◌, ◌≤◌, true, false, Some, List, [], ◌∷◌, ◌++◌, length, get_or, take, refl, sym, ap, arith, nat_lt, nat_eq, slice_get, ◌||◌, ◌&&◌, All, insert}
 use Rattle.std.proofs.lemmas.Bool.{cases_Bool, cases_order, eq-eqb, ne_eqb}
 use Rattle.std.proofs.lemmas.Bool.Decides.{nat_tests}
 use Rattle.std.proofs.lemmas.List.Elements.{All-nil, All-cons, All-head, All-tail, All-weaker}

@@ -1,7 +1,5 @@
 -- What a walk has shown, step by step of the code.
-use Rattle.std.proofs.Common.{◌≡◌, inl, inr, ℕ, zero, suc, ◌+◌, ◌-◌, ◌<◌, ◌≤◌, ◌^◌, Bool, true, false, List, [], ◌∷◌, ◌++◌, length, get_or, take, max, sym, ◌∙◌, ap, subst, arith, length-append}
-use Rattle.std.specs.List.{All, Contains}
-use Rattle.std.specs.Prelude.{nat_eq}
+use Rattle.std.proofs.Common.{◌≡◌, inl, inr, ℕ, zero, suc, ◌+◌, ◌-◌, ◌<◌, ◌≤◌, ◌^◌, Bool, true, false, List, [], ◌∷◌, ◌++◌, length, get_or, take, max, sym, ◌∙◌, ap, subst, arith, length-append, All, Contains, nat_eq}
 use Rattle.std.proofs.lemmas.Bool.{cases_lt, eqb-true}
 use Rattle.std.proofs.lemmas.List.{map-append, take_at}
 use Rattle.plan_model.specs.Rules.{Each}

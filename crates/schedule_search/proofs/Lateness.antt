@@ -1,7 +1,6 @@
 -- Tests that aren't placed, from the longest on, and whether one of them ends late.
-use Rattle.std.proofs.Common.{◌≡◌, inl, inr, ℕ, ◌+◌, ◌-◌, ◌<◌, ◌≤◌, Bool, true, false, Option, Some, None, List, [], ◌∷◌, ◌++◌, length, map, refl, sym, ◌∙◌, ap, subst, arith}
-use Rattle.std.specs.Prelude.{slice_get, slice_index_or, nat_eq, ◌||◌, IfSome}
-use Rattle.std.specs.List.{Contains, filter, list_any}
+use Rattle.std.proofs.Common.{◌≡◌, inl, inr, ℕ, ◌+◌, ◌-◌, ◌<◌, ◌≤◌, Bool, true, false, Option, Some, None, List, [], ◌∷◌, ◌++◌, length, map, refl, sym, ◌∙◌, ap, subst, arith, slice_get, slice_index_or, nat_eq, ◌||◌, IfSome, Contains, filter}
+use Rattle.std.specs.List.{list_any}
 use Rattle.std.proofs.lemmas.Bool.{cases_order, cases_Bool}
 use Rattle.std.proofs.lemmas.Option.{slice_get_within, slice_get-map}
 use Rattle.std.proofs.lemmas.List.{append-nil}
@@ -15,7 +14,7 @@ use Rattle.resource_table.proofs.Befores.{before_has}
 use Rattle.resource_table.proofs.Ready.{ready-le-last, precedes_to}
 use Rattle.live_tests.specs.declared.neighbours.Neighbours.{Neighbours}
 use Rattle.resource_table.specs.Befores.{listed}
-use Rattle.schedule_search.specs.declared.walk.Seen.{Seen}
+use Rattle.schedule_search.specs.declared.walk.PlacedLast.{PlacedLast}
 use Rattle.schedule_search.specs.Late.{AreInTime, IsSeen, AreUnplaced}
 use Rattle.schedule_search.specs.Prefixes.{turned, tests_after, AreFollowers}
 use Rattle.common_lemmas.proofs.Options.{some_same}
@@ -102,7 +101,7 @@ read_none job lists lists' test after followers inside same is none =
     precedes_none job (map listed lists) test followers inside (ap (λ (l : List Neighbours). slice_index_or (map listed l) test []) (sym same) ∙ sym is ∙ empty_list after none)
 
 -- what is seen beside a test that is placed
-pub seen_more : (t more : TableValue) (job : JobValue) (p : Placement) (cycles : ℕ) (seen : Option Seen) → t.job ≡ job → more ≡ record t { placed = t.placed ++ p ∷ [] } → p.test < length job.tests → AreInTime t cycles →
+pub seen_more : (t more : TableValue) (job : JobValue) (p : Placement) (cycles : ℕ) (seen : Option PlacedLast) → t.job ≡ job → more ≡ record t { placed = t.placed ++ p ∷ [] } → p.test < length job.tests → AreInTime t cycles →
     IfSome seen (λ s. s ≡ record { test = p.test; cycles = cycles }) → IfSome seen (λ s. (later : ℕ) → Precedes job p.test later → ⊥) → IfSome seen (IsSeen more)
 seen_more t more job p cycles None same grown inside early is none = tt
 seen_more t more job p cycles (Some s) same grown inside early is none =

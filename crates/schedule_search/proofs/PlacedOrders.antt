@@ -1,7 +1,5 @@
 -- The tests of an order are placed one by one.
-use Rattle.std.proofs.Common.{◌≡◌, inl, inr, ℕ, ◌+◌, ◌<◌, ◌≤◌, max, Some, List, [], ◌∷◌, ◌++◌, length, get_or, take, map, true, false, sym, ◌∙◌, ap, subst, arith, append_assoc, length-append}
-use Rattle.std.specs.Prelude.{slice_get, nat_eq}
-use Rattle.std.specs.List.{Contains}
+use Rattle.std.proofs.Common.{◌≡◌, inl, inr, ℕ, ◌+◌, ◌<◌, ◌≤◌, max, Some, List, [], ◌∷◌, ◌++◌, length, get_or, take, map, true, false, sym, ◌∙◌, ap, subst, arith, append_assoc, length-append, slice_get, nat_eq, Contains}
 use Rattle.std.proofs.lemmas.Bool.{cases_Bool, eqb-true, eq-eqb}
 use Rattle.std.proofs.lemmas.List.{take_more, take_at, map-append}
 use Rattle.std.proofs.lemmas.Option.{slice_get-get_or, slice_get-map}

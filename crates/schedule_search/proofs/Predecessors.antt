@@ -1,6 +1,5 @@
 -- Items of a list by their places.
-use Rattle.std.proofs.Common.{◌≡◌, ℕ, zero, suc, ◌<◌, List, [], ◌∷◌, length, get_or, refl, arith}
-use Rattle.std.specs.List.{Contains}
+use Rattle.std.proofs.Common.{◌≡◌, ℕ, zero, suc, ◌<◌, List, [], ◌∷◌, length, get_or, refl, arith, Contains}
 use Rattle.common_lemmas.proofs.Lists.{any_default}
 
 pub at_place : (xs : List ℕ) (k d : ℕ) → k < length xs → Contains xs (get_or xs k d)

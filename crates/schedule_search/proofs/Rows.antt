@@ -1,6 +1,5 @@
 -- Worked rows: the walk over the orders of a job, computed.
-use Rattle.std.proofs.Common.{◌≡◌, ℕ, true, false, None, Some, List, [], ◌∷◌, length, refl}
-use Rattle.std.specs.Prelude.{slice_get}
+use Rattle.std.proofs.Common.{◌≡◌, ℕ, true, false, None, Some, List, [], ◌∷◌, length, refl, slice_get}
 use Rattle.resource_table.specs.Jobs.{TestValue, JobValue}
 use Rattle.schedule_search.specs.Walks.{stands_before, by_length, walk}
 

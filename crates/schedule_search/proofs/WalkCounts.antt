@@ -1,7 +1,5 @@
 -- How many entries a walk has.
-use Rattle.std.proofs.Common.{◌≡◌, inl, inr, ℕ, zero, suc, ◌+◌, ◌-◌, ◌*◌, ◌≤◌, Bool, true, Some, List, [], ◌∷◌, ◌++◌, length, refl, ◌∙◌, ap, arith, length-append, mul-suc}
-use Rattle.std.specs.Prelude.{slice_get}
-use Rattle.std.specs.List.{filter, flat_map}
+use Rattle.std.proofs.Common.{◌≡◌, inl, inr, ℕ, zero, suc, ◌+◌, ◌-◌, ◌*◌, ◌≤◌, Bool, true, Some, List, [], ◌∷◌, ◌++◌, length, refl, ◌∙◌, ap, arith, length-append, mul-suc, slice_get, filter, flat_map}
 use Rattle.std.proofs.Math.Nat.{mul_assoc, mul-add, mul_comm, mul-le-mul_right}
 use Rattle.std.proofs.lemmas.Bool.{cases_Bool}
 use Rattle.plan_model.proofs.Lists.{from_filter}

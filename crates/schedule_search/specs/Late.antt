@@ -3,7 +3,7 @@ use Rattle.std.specs.Prelude.{◌≡◌, ℕ, ◌+◌, ◌<◌, ◌≤◌, false
 use Rattle.resource_table.specs.declared.Placement.{Placement}
 use Rattle.resource_table.specs.Jobs.{JobValue, cycles_of}
 use Rattle.resource_table.specs.Schedules.{TableValue, ready_at, is_placed, IsEarliest}
-use Rattle.schedule_search.specs.declared.walk.Seen.{Seen}
+use Rattle.schedule_search.specs.declared.walk.PlacedLast.{PlacedLast}
 
 -- a test that isn't placed ends, if it is placed now, at `cycles` or later
 pub record IsLateAt (t : TableValue) (cycles : ℕ) : Type 0 where
@@ -18,7 +18,7 @@ AreInTime t cycles =
     (test : ℕ) → test < length t.job.tests → is_placed t.placed test ≡ false → ready_at t.job t.placed test + cycles_of t.job test < cycles
 
 -- what is seen beside a test of the job: each one that isn't placed is in time
-pub record IsSeen (t : TableValue) (s : Seen) : Type 0 where
+pub record IsSeen (t : TableValue) (s : PlacedLast) : Type 0 where
   pub in_job : s.test < length t.job.tests
   pub in_time : AreInTime t s.cycles
 

@@ -3,7 +3,7 @@ use Rattle.std.specs.Prelude.{◌≡◌, ℕ, ◌+◌, ◌<◌, ◌≤◌, ◌�
 use Rattle.std.specs.List.{All, Contains}
 use Rattle.resource_table.specs.Jobs.{JobValue}
 use Rattle.schedule_search.specs.declared.walk.Progress.{Progress}
-use Rattle.schedule_search.specs.declared.tries.Tries.{Tries}
+use Rattle.schedule_search.specs.declared.tries.OrderTables.{OrderTables}
 use Rattle.schedule_search.specs.Orders.{IsTopological, IsFirstOrder}
 use Rattle.resource_table.specs.Befores.{listed}
 use Rattle.schedule_search.specs.OrderCycles.{Takes}
@@ -11,7 +11,7 @@ use Rattle.schedule_search.specs.Prefixes.{AreFollowers, AreMissing}
 use Rattle.schedule_search.specs.Walks.{stands_before, by_length, StandIn, IsOpen}
 
 -- all tests in the order of trying, those that each precedes, and how many precedences each has
-pub record AreTries (job : JobValue) (tries : Tries) : Type 0 where
+pub record AreTries (job : JobValue) (tries : OrderTables) : Type 0 where
   pub tests : tries.tests.items ≡ by_length job
   pub after : AreFollowers job (map listed tries.after.items)
   pub missing : AreMissing job [] tries.missing.items

@@ -6,7 +6,7 @@ ghost use Rattle.schedule_search.specs.Orders.{IsFirstOrder};
 ghost use Rattle.schedule_search.specs.Progress.{AreTries};
 
 use crate::prefix::Prefix;
-use crate::tries::{Tries, tries_of};
+use crate::tries::{OrderTables, tries_of};
 use outside::NoMemory;
 use resource_table::Job;
 use std::alloc::Global;
@@ -20,7 +20,11 @@ pub(crate) fn cycles_at(job: &Job, test: usize) -> u64
 }
 
 /// The first order of the tests of a sound job, by what the walk goes by. `NoMemory` where there is no memory.
-pub(crate) fn first_by(alloc: Global, job: &Job, tries: &Tries) -> Result<Vec<usize>, NoMemory>
+pub(crate) fn first_by(
+    alloc: Global,
+    job: &Job,
+    tries: &OrderTables,
+) -> Result<Vec<usize>, NoMemory>
     requires sound { IsSoundJob (job_value job.now) }
     requires tries { AreTries (job_value job.now) tries.now }
     ensures { IfOk result (λ order. IsFirstOrder (job_value job.now) order.items) }

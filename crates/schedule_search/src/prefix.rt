@@ -9,7 +9,7 @@ ghost use Rattle.schedule_search.specs.Progress.{AreTries};
 
 use crate::lists::{copy_to, put_at, put_for, room_for, take_at};
 use crate::sorted::{place_of, put_in, take_out};
-use crate::tries::Tries;
+use crate::tries::OrderTables;
 use outside::NoMemory;
 use resource_table::{Job, earlier_than};
 use std::alloc::Global;
@@ -182,7 +182,7 @@ impl Prefix {
     }
 
     /// Goes to the empty prefix. Its contract speaks of the job.
-    pub(crate) fn begin(&mut self, job: &Job, tries: &Tries)
+    pub(crate) fn begin(&mut self, job: &Job, tries: &OrderTables)
         requires tries { AreTries (job_value job.now) tries.now }
         requires room { HasPrefixRoom (length (job_value job.now).tests) self.old }
         ensures tests { self.new.tests.items ≡ [] }
@@ -209,7 +209,7 @@ impl Prefix {
 
     /// Appends a test that was taken out.
     #[inline(always)]
-    pub(crate) fn append(&mut self, job: &Job, tries: &Tries, test: usize)
+    pub(crate) fn append(&mut self, job: &Job, tries: &OrderTables, test: usize)
         requires tries { AreTries (job_value job.now) tries.now }
         requires in_range { AreInRange (job_value job.now) }
         requires out { IsOut (job_value job.now) self.old.tests.items test self.old }
@@ -225,7 +225,7 @@ impl Prefix {
     }
 
     /// Appends the first of the free tests.
-    pub(crate) fn take_first(&mut self, job: &Job, tries: &Tries)
+    pub(crate) fn take_first(&mut self, job: &Job, tries: &OrderTables)
         requires tries { AreTries (job_value job.now) tries.now }
         requires in_range { AreInRange (job_value job.now) }
         requires at { IsAt (job_value job.now) self.old.tests.items self.old }
@@ -237,7 +237,7 @@ impl Prefix {
     }
 
     /// Takes the last test back. It is still out.
-    pub(crate) fn go_back(&mut self, job: &Job, tries: &Tries)
+    pub(crate) fn go_back(&mut self, job: &Job, tries: &OrderTables)
         requires tries { AreTries (job_value job.now) tries.now }
         requires in_range { AreInRange (job_value job.now) }
         requires at { IsAt (job_value job.now) self.old.tests.items self.old }

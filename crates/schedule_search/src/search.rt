@@ -19,7 +19,7 @@ use crate::lists::{are_same, copy_to, room_for};
 use crate::order::first_by;
 use crate::prefix::Prefix;
 use crate::starts::list_starts;
-use crate::tries::{Tries, tries_of};
+use crate::tries::{OrderTables, tries_of};
 use crate::walk::{Progress, Reached, explore_orders};
 use outside::NoMemory;
 use resource_table::{Job, Table, TableOf};
@@ -50,7 +50,7 @@ pub struct Search<'a, F> {
     /// The estimate of where a test ends.
     ahead: Ahead<F>,
     /// What the walk goes by.
-    tries: Tries,
+    tries: OrderTables,
     /// The first order.
     first: Vec<usize>,
     /// Room for what is found.
@@ -125,7 +125,7 @@ fn improve_best<J>(job: &Job, table: &mut TableOf<J>, progress: &mut Progress)
 /// Searches, from an empty table on. The starts of the first order are listed.
 fn search_orders<J, E: Estimate<J>>(
     job: &Job,
-    tries: &Tries,
+    tries: &OrderTables,
     ahead: &E,
     table: &mut TableOf<J>,
     first: &[usize],
@@ -161,7 +161,7 @@ fn search_orders<J, E: Estimate<J>>(
 /// Searches, from an empty table on, and lists the starts of the best order. Those of the first order are listed already.
 fn search_all<J, E: Estimate<J>>(
     job: &Job,
-    tries: &Tries,
+    tries: &OrderTables,
     ahead: &E,
     table: &mut TableOf<J>,
     first: &[usize],
@@ -232,7 +232,7 @@ fn kept_for<'a>(
     alloc: Global,
     job: &'a Job,
     budget: u64,
-) -> Result<(Table<'a>, Tries, Vec<usize>, WalkRoom), NoMemory>
+) -> Result<(Table<'a>, OrderTables, Vec<usize>, WalkRoom), NoMemory>
     requires { IsSoundJob (job_value job.now) }
     ensures kept { IfOk result (λ kept. IsKept (job_value job.now) kept.0 kept.1 kept.2 kept.3) }
     ensures budget { IfOk result (λ kept. kept.1.budget ≡ budget) }

@@ -16,7 +16,7 @@ use std::cmp::Reverse;
 
 /// What the walk over the orders of a job goes by.
 #[derive(Drop)]
-pub(crate) struct Tries {
+pub(crate) struct OrderTables {
     /// All tests, the longest first; of those that take the same cycles the one that stands first in the job.
     pub(crate) tests: Vec<usize>,
     /// For each test those that it precedes.
@@ -109,12 +109,12 @@ fn most_power(tests: &[JobTest]) -> u64 {
 }
 
 /// What the walk over the orders of a job goes by. `NoMemory` where there is none.
-pub(crate) fn tries_of(alloc: Global, job: &Job, budget: u64) -> Result<Tries, NoMemory>
+pub(crate) fn tries_of(alloc: Global, job: &Job, budget: u64) -> Result<OrderTables, NoMemory>
     requires { IsSoundJob (job_value job.now) }
     ensures tries { IfOk result (AreTries (job_value job.now)) }
     ensures budget { IfOk result (λ tries. tries.budget ≡ budget) }
 {
-    Ok(Tries {
+    Ok(OrderTables {
         tests: by_length(alloc, job)?,
         after: followers(alloc, job)?,
         missing: all_missing(alloc, job)?,

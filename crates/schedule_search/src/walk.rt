@@ -17,7 +17,7 @@ use crate::ahead::Estimate;
 use crate::lists::copy_to;
 use crate::order::cycles_at;
 use crate::prefix::Prefix;
-use crate::tries::Tries;
+use crate::tries::OrderTables;
 use resource_table::{Job, TableOf, earlier_than, list_schedules_are_short};
 
 /// How far a walk has come.
@@ -38,7 +38,7 @@ pub(crate) struct Progress {
 /// A test that was placed last, and what was seen of those that are left before it was: all of them are in time. Where it excludes
 /// one of them, that may start later now; the others start when they did.
 #[derive(Clone, Copy)]
-pub(crate) struct Seen {
+pub(crate) struct PlacedLast {
     /// The test.
     pub(crate) test: usize,
     /// The others end before this cycle.
@@ -75,10 +75,10 @@ fn offer_order(progress: &mut Progress, order: &[usize], cycles: u64)
 }
 
 /// Whether a test was in time before the last one was placed, and that one doesn't exclude it: it needn't be asked of then.
-fn is_still_in_time(job: &Job, seen: Option<Seen>, test: usize, cycles: u64) -> bool
+fn is_still_in_time(job: &Job, seen: Option<PlacedLast>, test: usize, cycles: u64) -> bool
     requires last { IfSome seen (λ s. s.test < length (job_value job.now).tests) }
     requires in_job { test < length (job_value job.now).tests }
-    ensures { result ≡ true → (s : Seen) × (seen ≡ Some s) × (s.cycles ≡ cycles) }
+    ensures { result ≡ true → (s : PlacedLast) × (seen ≡ Some s) × (s.cycles ≡ cycles) }
 {
     let Some(last) = seen else {
         return false;
@@ -122,7 +122,7 @@ fn asks_late<J, E: Estimate<J>>(
     test: usize,
     left: u64,
     cycles: u64,
-    seen: Option<Seen>,
+    seen: Option<PlacedLast>,
 ) -> bool
     requires job { table.old.job ≡ job_value job.now }
     requires estimates { E.estimates ahead.now }
@@ -204,7 +204,7 @@ struct Asked {
     /// The greatest power of a step of a test.
     most: u64,
     /// What was seen as the last test was placed.
-    seen: Option<Seen>,
+    seen: Option<PlacedLast>,
     /// How many prefixes were entered.
     entered: u64,
 }
@@ -340,7 +340,7 @@ fn is_over<J, E: Estimate<J>>(
 
 /// What is seen of the tests that are left as one of them is placed, where all of them are in time: without a limit on power only
 /// those that it excludes or precedes may start later beside it. It is noted where it precedes none.
-fn seen_beside(job: &Job, tries: &Tries, test: usize, cycles: u64) -> Option<Seen>
+fn seen_beside(job: &Job, tries: &OrderTables, test: usize, cycles: u64) -> Option<PlacedLast>
     requires tries { AreTries (job_value job.now) tries.now }
     requires in_job { test < length (job_value job.now).tests }
     ensures seen { IfSome result (λ s. s ≡ record { test = test; cycles = cycles }) }
@@ -352,7 +352,7 @@ fn seen_beside(job: &Job, tries: &Tries, test: usize, cycles: u64) -> Option<See
     if !earlier_than(&tries.after, test).is_empty() {
         return None;
     }
-    Some(Seen { test, cycles })
+    Some(PlacedLast { test, cycles })
 }
 
 /// The test that is placed next.
@@ -372,7 +372,7 @@ pub(crate) struct Reached {
     /// The end of the last of them.
     pub(crate) end: u64,
     /// What was seen as the last of them was placed.
-    pub(crate) seen: Option<Seen>,
+    pub(crate) seen: Option<PlacedLast>,
 }
 
 /// Goes on with all orders that begin with the placed tests and then with one more, which is taken out. Its start is noted:
@@ -380,7 +380,7 @@ pub(crate) struct Reached {
 #[cycle(explore_orders)]
 fn go_on<J, E: Estimate<J>>(
     job: &Job,
-    tries: &Tries,
+    tries: &OrderTables,
     ahead: &E,
     table: &mut TableOf<J>,
     prefix: &mut Prefix,
@@ -432,7 +432,7 @@ fn go_on<J, E: Estimate<J>>(
 #[cycle(explore_orders)]
 pub(crate) fn explore_orders<J, E: Estimate<J>>(
     job: &Job,
-    tries: &Tries,
+    tries: &OrderTables,
     ahead: &E,
     table: &mut TableOf<J>,
     prefix: &mut Prefix,

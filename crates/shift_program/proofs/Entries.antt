@@ -1,15 +1,14 @@
 -- Where the operations of an entry stand, and what the entries before it did.
-use Rattle.std.proofs.Common.{◌≡◌, ◌⊎◌, inl, inr, ℕ, zero, suc, ◌+◌, ◌<◌, Bool, true, false, Some, List, [], ◌∷◌, ◌++◌, length, replicate, take, drop, refl, ap, ◌∙◌, sym, subst, arith}
-use Rattle.std.specs.Prelude.{slice_get}
+use Rattle.std.proofs.Common.{◌≡◌, ◌⊎◌, inl, inr, ℕ, zero, suc, ◌+◌, ◌<◌, Bool, true, false, Some, List, [], ◌∷◌, ◌++◌, length, replicate, take, drop, refl, ap, ◌∙◌, sym, arith, slice_get}
 use Rattle.std.proofs.lemmas.List.{length-append}
 use Rattle.std.proofs.lemmas.List.Concat.{flat_map-append}
 use Rattle.plan_model.specs.Operations.{Operation, Setup, Shift, Capture, SelfTest}
 use Rattle.plan_model.proofs.Lists.{from_append}
 use Rattle.shift_program.specs.declared.Entry.{Entry}
-use Rattle.shift_program.specs.declared.Entry.TheVariants as entry
 use Rattle.shift_program.specs.Programs.{entry_operations, operations}
 use Rattle.shift_program.proofs.Blocks.{has_capture}
 use Rattle.common_lemmas.proofs.Lists.{in_take, from_take, take_front}
+use Rattle.shift_program.specs.declared.Entry.TheVariants as entry
 
 -- ---- lists
 
@@ -44,22 +43,26 @@ only_item (suc n) (suc i) x y e = only_item n i x y e
 pub operations_append : (a b : List Entry) → operations (a ++ b) ≡ operations a ++ operations b
 operations_append a b = flat_map-append entry_operations a b
 
--- the operations, at an entry
-pub parted_at : (es : List Entry) (i : ℕ) (e : Entry) → slice_get es i ≡ Some e → operations es ≡ operations (take i es) ++ (entry_operations e ++ operations (drop (suc i) es))
-parted_at es i e at = ap operations (parted es i e at) ∙ operations_append (take i es) (e ∷ drop (suc i) es)
+module _ (es : List Entry) (i : ℕ) where
+  abbrev front : List Entry
+  front = take i es
 
-pub record CaptureAt (es : List Entry) (i k : ℕ) : Type 0 where
-  pub captures : slice_get (operations es) (length (operations (take i es))) ≡ Some (Capture k)
-  pub before : take (length (operations (take i es))) (operations es) ≡ operations (take i es)
+  -- the operations, at an entry
+  pub parted_at : (e : Entry) → slice_get es i ≡ Some e → operations es ≡ operations front ++ (entry_operations e ++ operations (drop (suc i) es))
+  parted_at e at = ap operations (parted es i e at) ∙ operations_append front (e ∷ drop (suc i) es)
 
--- the operation of a Capture entry
-pub capture_at : (es : List Entry) (i k : ℕ) → slice_get es i ≡ Some (entry.Capture k) → CaptureAt es i k
-capture_at es i k at =
-    let whole : operations es ≡ operations (take i es) ++ Capture k ∷ operations (drop (suc i) es) = parted_at es i (entry.Capture k) at in
-    record {
-      captures = ap (λ v. slice_get v (length (operations (take i es)))) whole ∙ at_seam (operations (take i es)) (Capture k) (operations (drop (suc i) es));
-      before = ap (take (length (operations (take i es)))) whole ∙ take_front (operations (take i es)) (Capture k ∷ operations (drop (suc i) es));
-    }
+  pub record CaptureAt (k : ℕ) : Type 0 where
+    pub captures : slice_get (operations es) (length (operations front)) ≡ Some (Capture k)
+    pub before : take (length (operations front)) (operations es) ≡ operations front
+
+  -- the operation of a Capture entry
+  pub capture_at : (k : ℕ) → slice_get es i ≡ Some (entry.Capture k) → CaptureAt k
+  capture_at k at =
+      let whole = parted_at (entry.Capture k) at in
+      record {
+        captures = ap (λ v. slice_get v (length (operations front))) whole ∙ at_seam (operations front) (Capture k) (operations (drop (suc i) es));
+        before = ap (take (length (operations front))) whole ∙ take_front (operations front) (Capture k ∷ operations (drop (suc i) es));
+      }
 
 -- the entry of a Capture
 pub record EntryOf (es : List Entry) (n k : ℕ) : Type 0 where
@@ -68,8 +71,8 @@ pub record EntryOf (es : List Entry) (n k : ℕ) : Type 0 where
   pub at : n ≡ length (operations (take place es))
 
 in_entry : (e : Entry) (es : List Entry) (n k : ℕ) → slice_get (entry_operations e) n ≡ Some (Capture k) → EntryOf (e ∷ es) n k
-in_entry (entry.Rest c) es n k at = let other : Setup ≡ Capture k = only_item c n Setup (Capture k) at in absurd cc
-in_entry (entry.Shift c) es n k at = let other : Shift ≡ Capture k = only_item c n Shift (Capture k) at in absurd cc
+in_entry (entry.Rest c) es n k at = let other = only_item c n Setup (Capture k) at in absurd cc
+in_entry (entry.Shift c) es n k at = let other = only_item c n Shift (Capture k) at in absurd cc
 in_entry (entry.Capture c) es zero k at = let same : c ≡ k = cc in record { place = 0; there = ap (λ v. Some (entry.Capture v)) same; at = refl }
 in_entry (entry.Capture c) es (suc n) k at = absurd cc
 
@@ -87,13 +90,13 @@ entry_of (e ∷ es) n k at = by (from_append (entry_operations e) (operations es
 -- an earlier Capture entry has an earlier Capture
 pub earlier_capture : (es : List Entry) (q i k : ℕ) → q < i → slice_get es q ≡ Some (entry.Capture k) → length (operations (take q es)) < length (operations (take i es))
 earlier_capture [] q i k less at = absurd cc
-earlier_capture (e ∷ es) q zero k less at = absurd (omega (arith, less))
+earlier_capture (e ∷ es) q zero k less at = absurd (omega arith)
 earlier_capture (e ∷ es) zero (suc i) k less at =
     let same : e ≡ entry.Capture k = cc in
-    subst (λ v. 0 < length (operations (v ∷ take i es))) (sym same) (omega arith)
+    rw same (omega arith)
 earlier_capture (e ∷ es) (suc q) (suc i) k less at =
-    let ih : length (operations (take q es)) < length (operations (take i es)) = earlier_capture es q i k (omega (arith, less)) at in
-    omega (arith, ih, length-append (entry_operations e) (operations (take q es)), length-append (entry_operations e) (operations (take i es)))
+    let ih = earlier_capture es q i k (omega arith) at in
+    omega (arith, length-append (entry_operations e) (operations (take q es)), length-append (entry_operations e) (operations (take i es)))
 
 -- ---- captures
 
@@ -121,19 +124,23 @@ has_where (Capture k ∷ ops) e = (0, k, refl)
 has_where (Setup ∷ ops) e = let r = has_where ops e in (suc r.0, r.1, r.2)
 has_where (SelfTest ∷ ops) e = let r = has_where ops e in (suc r.0, r.1, r.2)
 
--- a capture before an entry
-abbrev pub CaptureBefore : List Entry → ℕ → Type 0
-CaptureBefore es i = (q : ℕ) × (k : ℕ) × (q < i) × (slice_get es q ≡ Some (entry.Capture k))
+module _ (es : List Entry) (i : ℕ) where
+  abbrev earlier_ones : List Entry
+  earlier_ones = take i es
 
-pub captured_before : (es : List Entry) (i : ℕ) → has_capture false (operations (take i es)) ≡ true → CaptureBefore es i
-captured_before es i e =
-    let n = has_where (operations (take i es)) e in
-    let f = entry_of (take i es) n.0 n.1 n.2 in
-    let r = from_take es i f.place (entry.Capture n.1) f.there in
-    (f.place, n.1, r.0, r.1)
+  -- a capture before an entry
+  abbrev pub CaptureBefore : Type 0
+  CaptureBefore = (q : ℕ) × (k : ℕ) × (q < i) × (slice_get es q ≡ Some (entry.Capture k))
 
-pub before_captured : (es : List Entry) (i : ℕ) → CaptureBefore es i → has_capture false (operations (take i es)) ≡ true
-before_captured es i c =
-    let there = in_take es i c.0 (entry.Capture c.1) c.2 c.3 in
-    let a = capture_at (take i es) c.0 c.1 there in
-    has_here false (operations (take i es)) (length (operations (take c.0 (take i es)))) c.1 a.captures
+  pub captured_before : has_capture false (operations earlier_ones) ≡ true → CaptureBefore
+  captured_before e =
+      let n = has_where (operations earlier_ones) e in
+      let f = entry_of earlier_ones n.0 n.1 n.2 in
+      let r = from_take es i f.place (entry.Capture n.1) f.there in
+      (f.place, n.1, r.0, r.1)
+
+  pub before_captured : CaptureBefore → has_capture false (operations earlier_ones) ≡ true
+  before_captured c =
+      let there = in_take es i c.0 (entry.Capture c.1) c.2 c.3 in
+      let a = capture_at earlier_ones c.0 c.1 there in
+      has_here false (operations earlier_ones) (length (operations (take c.0 earlier_ones))) c.1 a.captures

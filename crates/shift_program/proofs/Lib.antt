@@ -4,12 +4,7 @@ pub mod Entries
 pub mod Patterns
 pub mod Lengths
 pub mod Faultless
-pub mod RightOnes
-pub mod Chains
 pub mod Counts
-pub mod Passing
-pub mod Exact
-pub mod Checked
-pub mod TextsRead
-pub mod Endable
 pub mod Texts
+pub mod RightOnes
+pub mod Exact

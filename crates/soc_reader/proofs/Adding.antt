@@ -1,8 +1,7 @@
 -- What is known after one item more is put in.
-use Rattle.std.proofs.Common.{◌≡◌, ◌∙◌, sym, ap, subst, ℕ, List, ◌&&◌, ◌||◌, Bool, true, false, nat_eq, refl}
-use Rattle.std.specs.Prelude.{not}
+use Rattle.std.proofs.Common.{◌≡◌, ◌∙◌, sym, ap, subst, ℕ, List, ◌&&◌, ◌||◌, Bool, true, false, nat_eq, refl, not}
 use Rattle.soc_model.specs.Chips.{soc_value}
-use Rattle.soc_reader.specs.declared.kept.Kept.{Kept}
+use Rattle.soc_reader.specs.declared.kept.ItemsSoFar.{ItemsSoFar}
 use Rattle.soc_reader.specs.declared.keys.Key.{Key}
 use Rattle.soc_reader.specs.declared.keys.Key.TheVariants.{SocName, TotalModules, Options, PowerFlag, XyFlag, Module, TotalTests, Test, ScanUse, TamUse, Patterns, Power}
 use Rattle.soc_reader.specs.declared.keys.Subject.{Subject}
@@ -15,10 +14,10 @@ use Rattle.soc_reader.specs.Meaning.{says}
 use Rattle.soc_reader.specs.declared.build.Draft.{Draft}
 use Rattle.soc_reader.specs.Drafts.{IsIndexed}
 use Rattle.soc_reader.specs.Names.{name_in, is_other_name}
-use Rattle.soc_reader.specs.Known.{Known, add, is_given_once, is_of_test, is_total, with_total}
+use Rattle.soc_reader.specs.ItemsValue.{ItemsValue, add, is_given_once, is_of_test, is_total, with_total}
 use Rattle.soc_reader.specs.Views.{known_of, totals_of, WentOn}
 
-pub known-same : (a b : Known) → a.opened ≡ b.opened → a.place ≡ b.place → a.xy ≡ b.xy → ((s : Subject) (k : Key) → a.given s k ≡ b.given s k) → ((m : ℕ) (w : List ℕ) → a.renamed m w ≡ b.renamed m w) → a.chip ≡ b.chip → a.totals ≡ b.totals → a ≡ b
+pub known-same : (a b : ItemsValue) → a.opened ≡ b.opened → a.place ≡ b.place → a.xy ≡ b.xy → ((s : Subject) (k : Key) → a.given s k ≡ b.given s k) → ((m : ℕ) (w : List ℕ) → a.renamed m w ≡ b.renamed m w) → a.chip ≡ b.chip → a.totals ≡ b.totals → a ≡ b
 known-same a b opened place xy given renamed chip totals =
     λ i. record {
       opened = opened i;
@@ -31,7 +30,7 @@ known-same a b opened place xy given renamed chip totals =
     }
 
 -- each part is that with the item
-pub kept-added : (x : Item) (old new : Kept) → new.opened ≡ opens_item x old.opened → new.after ≡ after_item x → new.xy ≡ (gives_xy x || old.xy)
+pub kept-added : (x : Item) (old new : ItemsSoFar) → new.opened ≡ opens_item x old.opened → new.after ≡ after_item x → new.xy ≡ (gives_xy x || old.xy)
     → ((s : Subject) (k : Key) → (not (may_repeat k) && is_marked s k new.given) ≡ (is_given_once s k x || (not (may_repeat k) && is_marked s k old.given)))
     → ((m : ℕ) (w : List ℕ) → is_other_name (name_in new.names m) w ≡ (renames m w x || is_other_name (name_in old.names m) w))
     → soc_value new.draft.soc ≡ says x (soc_value old.draft.soc) → totals_of new.totals.items ≡ with_total x (totals_of old.totals.items) → known_of new ≡ add x (known_of old)
@@ -39,7 +38,7 @@ unfolding known_of add
 kept-added x old new opened place xy given renamed chip totals = known-same (known_of new) (add x (known_of old)) opened place xy given renamed chip totals
 
 -- each part goes on behind the item
-pub went-added : (x : Item) (old mid new : Kept) → WentOn x mid new → mid.opened ≡ old.opened → mid.xy ≡ old.xy → mid.totals ≡ old.totals → mid.names ≡ old.names → mid.given ≡ old.given
+pub went-added : (x : Item) (old mid new : ItemsSoFar) → WentOn x mid new → mid.opened ≡ old.opened → mid.xy ≡ old.xy → mid.totals ≡ old.totals → mid.names ≡ old.names → mid.given ≡ old.given
     → ((m : ℕ) (w : List ℕ) → false ≡ renames m w x)
     → soc_value mid.draft.soc ≡ says x (soc_value old.draft.soc) → known_of new ≡ add x (known_of old)
 went-added x old mid new went opened xy totals names given unnamed chip =
@@ -52,7 +51,7 @@ went-added x old mid new went opened xy totals names given unnamed chip =
     (ap (λ (d : Draft). soc_value d.soc) went.draft ∙ chip)
     (went.totals ∙ ap (λ ts. with_total x (totals_of ts.items)) totals)
 
-pub went-indexed : (x : Item) (mid new : Kept) → WentOn x mid new → IsIndexed mid.draft → IsIndexed new.draft
+pub went-indexed : (x : Item) (mid new : ItemsSoFar) → WentOn x mid new → IsIndexed mid.draft → IsIndexed new.draft
 went-indexed x mid new went indexed = let P : Draft → Type 0 = λ d. IsIndexed d in subst P (sym went.draft) indexed
 
 opens-alike : (s : Subject) (k : Key) (ns : List ℕ) (o : Subject) → opens s k nothing o ≡ opens s k (lengths ns) o
@@ -85,7 +84,7 @@ no_total-more : (x : Item) (totals : List Item) → is_total x ≡ false → wit
 no_total-more x totals e = rw e refl
 
 -- a list goes on as nothing does
-pub list-went : (s : Subject) (k : Key) (ns : List ℕ) (old new : Kept) → WentOn (entry s k nothing) old new → WentOn (entry s k (lengths ns)) old new
+pub list-went : (s : Subject) (k : Key) (ns : List ℕ) (old new : ItemsSoFar) → WentOn (entry s k nothing) old new → WentOn (entry s k (lengths ns)) old new
 list-went s k ns old new went = record {
   draft = went.draft;
   given = went.given;
@@ -97,7 +96,7 @@ list-went s k ns old new went = record {
 }
 
 -- the subject by another name
-pub added-of : (s u : Subject) (k : Key) (v : Value) (old new : Known) → s ≡ u → new ≡ add (entry u k v) old → new ≡ add (entry s k v) old
+pub added-of : (s u : Subject) (k : Key) (v : Value) (old new : ItemsValue) → s ≡ u → new ≡ add (entry u k v) old → new ≡ add (entry s k v) old
 added-of s u k v old new same is = is ∙ ap (λ (w : Subject). add (entry w k v) old) (sym same)
 
 -- what may be given once was given now, or before

@@ -1,7 +1,6 @@
 -- What is known of items goes along with the items.
-use Rattle.std.proofs.Common.{◌≡◌, ℕ, zero, suc, List, [], ◌∷◌, ◌++◌, Bool, true, false, ◌&&◌, ◌||◌, Option, None, Some, option_map, refl, sym, ◌∙◌, ap}
-use Rattle.std.specs.Prelude.{not}
-use Rattle.std.specs.List.{list_any, filter}
+use Rattle.std.proofs.Common.{◌≡◌, ℕ, zero, suc, List, [], ◌∷◌, ◌++◌, Bool, true, false, ◌&&◌, ◌||◌, Option, None, Some, option_map, refl, sym, ◌∙◌, ap, not, filter}
+use Rattle.std.specs.List.{list_any}
 use Rattle.soc_reader.specs.declared.keys.Key.{Key}
 use Rattle.soc_reader.specs.declared.keys.Key.TheVariants.{TotalModules, TotalTests}
 use Rattle.soc_reader.specs.declared.keys.Subject.{Subject}
@@ -16,15 +15,15 @@ use Rattle.soc_reader.specs.Keywords.{key_of, is_lengths_word, is_free_word, is_
 use Rattle.soc_reader.specs.Table.{Value, nothing, count, lengths, Item, entry, name, place_data, coordinate, owner, shape_of, word_value, may_repeat}
 use Rattle.soc_reader.specs.Grammar.{after, is_options, open_after, is_given, may_give, may_name}
 use Rattle.soc_reader.specs.Meaning.{first_wrong, or_else, wrong_total}
-use Rattle.soc_reader.specs.Known.{Known, known_by, add, is_total, of_known, may_give as known_may_give}
+use Rattle.soc_reader.specs.ItemsValue.{ItemsValue, known_by, add, is_total, of_known, may_give as known_may_give}
 use Rattle.soc_reader.specs.Steps.{Part, between, wants, counted, listing, wants_coordinate, name_or_data, StateOf, State, start, of_list, at, begun, begin_if, begin_entry, begin_name, begin_data, is_data_word, begin_free, begin_word, is_data, begin_by, begin, after_value, list_from, after_many, after_length, step_value, step_counted, step_listing, step_name, step_at, step, run, closed_if, closed_at}
 use Rattle.soc_reader.specs.Reads.{nothing_known}
 use Rattle.soc_reader.proofs.TotalFacts.{or_else-none}
 
-abbrev pub state_by : State → StateOf Known
+abbrev pub state_by : State → StateOf ItemsValue
 state_by s = record { done = known_by s.done; part = s.part }
 
-abbrev pub by_state : Option State → Option (StateOf Known)
+abbrev pub by_state : Option State → Option (StateOf ItemsValue)
 by_state None = None
 by_state (Some s) = Some (state_by s)
 
@@ -47,7 +46,7 @@ give-known s k done = by (may_repeat k)
 
 -- ---- each step
 
-if-known : (b : Bool) (o : Option State) (p : Option (StateOf Known)) → p ≡ by_state o → begin_if b p ≡ by_state (begin_if b o)
+if-known : (b : Bool) (o : Option State) (p : Option (StateOf ItemsValue)) → p ≡ by_state o → begin_if b p ≡ by_state (begin_if b o)
 if-known true o p e = e
 if-known false o p e = refl
 
@@ -154,7 +153,7 @@ run-known (Some s) (w ∷ ws) = ap (λ p. run of_known p ws) (part-known s.done 
 
 -- ---- the end
 
-closed_if-known : (b : Bool) (done : List Item) (d : Known) → d ≡ known_by done → closed_if b d ≡ option_map known_by (closed_if b done)
+closed_if-known : (b : Bool) (done : List Item) (d : ItemsValue) → d ≡ known_by done → closed_if b d ≡ option_map known_by (closed_if b done)
 closed_if-known true done d e = ap Some e
 closed_if-known false done d e = refl
 
@@ -170,20 +169,20 @@ closed-known done (name_or_data m v) = closed_if-known (may_name m v done) (name
 
 -- ---- from what is known to the items
 
-pub record Behind (ws : List Word) (d : StateOf Known) : Type 0 where
+pub record Behind (ws : List Word) (d : StateOf ItemsValue) : Type 0 where
   pub state : State
   pub run_is : run of_list (Some start) ws ≡ Some state
   pub known : state_by state ≡ d
 
-some_of : (o : Option State) (d : StateOf Known) → by_state o ≡ Some d → (s : State) × (o ≡ Some s) × (state_by s ≡ d)
+some_of : (o : Option State) (d : StateOf ItemsValue) → by_state o ≡ Some d → (s : State) × (o ≡ Some s) × (state_by s ≡ d)
 some_of None d e = cc
 some_of (Some s) d e = (s, refl, same (state_by s) d e)
   where
-    same : (a b : StateOf Known) → Some a ≡ Some b → a ≡ b
+    same : (a b : StateOf ItemsValue) → Some a ≡ Some b → a ≡ b
     same a b e = cc
 
 -- what is known of words is known of items
-pub items_behind : (ws : List Word) (d : StateOf Known) → run of_known (Some nothing_known) ws ≡ Some d → Behind ws d
+pub items_behind : (ws : List Word) (d : StateOf ItemsValue) → run of_known (Some nothing_known) ws ≡ Some d → Behind ws d
 items_behind ws d is =
     let s = some_of (run of_list (Some start) ws) d (sym (run-known (Some start) ws) ∙ is) in
     record { state = s.0; run_is = s.1; known = s.2 }
@@ -193,22 +192,22 @@ none_of None e = refl
 none_of (Some s) e = cc
 
 -- a word that what is known refuses
-pub step_refused : (s : State) (d : StateOf Known) (w : Word) → state_by s ≡ d → step of_known d w ≡ None → step of_list s w ≡ None
+pub step_refused : (s : State) (d : StateOf ItemsValue) (w : Word) → state_by s ≡ d → step of_known d w ≡ None → step of_list s w ≡ None
 step_refused s d w same is = none_of (step of_list s w) (sym (part-known s.done s.part w) ∙ ap (λ e. step of_known e w) same ∙ is)
 
 -- an end that what is known refuses
-pub end_refused : (s : State) (d : StateOf Known) → state_by s ≡ d → closed_at of_known d.done d.part ≡ None → closed_at of_list s.done s.part ≡ None
-end_refused s d same is = none (closed_at of_list s.done s.part) (sym (closed-known s.done s.part) ∙ ap (λ (e : StateOf Known). closed_at of_known e.done e.part) same ∙ is)
+pub end_refused : (s : State) (d : StateOf ItemsValue) → state_by s ≡ d → closed_at of_known d.done d.part ≡ None → closed_at of_list s.done s.part ≡ None
+end_refused s d same is = none (closed_at of_list s.done s.part) (sym (closed-known s.done s.part) ∙ ap (λ (e : StateOf ItemsValue). closed_at of_known e.done e.part) same ∙ is)
   where
     none : (o : Option (List Item)) → option_map known_by o ≡ None → o ≡ None
     none None e = refl
     none (Some items) e = cc
 
 -- the items of an end
-pub end_items : (s : State) (d : StateOf Known) (whole : Known) → state_by s ≡ d → closed_at of_known d.done d.part ≡ Some whole → (items : List Item) × (closed_at of_list s.done s.part ≡ Some items) × (known_by items ≡ whole)
-end_items s d whole same is = some (closed_at of_list s.done s.part) (sym (closed-known s.done s.part) ∙ ap (λ (e : StateOf Known). closed_at of_known e.done e.part) same ∙ is)
+pub end_items : (s : State) (d : StateOf ItemsValue) (whole : ItemsValue) → state_by s ≡ d → closed_at of_known d.done d.part ≡ Some whole → (items : List Item) × (closed_at of_list s.done s.part ≡ Some items) × (known_by items ≡ whole)
+end_items s d whole same is = some (closed_at of_list s.done s.part) (sym (closed-known s.done s.part) ∙ ap (λ (e : StateOf ItemsValue). closed_at of_known e.done e.part) same ∙ is)
   where
-    inner : (a b : Known) → Some a ≡ Some b → a ≡ b
+    inner : (a b : ItemsValue) → Some a ≡ Some b → a ≡ b
     inner a b e = cc
 
     some : (o : Option (List Item)) → option_map known_by o ≡ Some whole → (items : List Item) × (o ≡ Some items) × (known_by items ≡ whole)

@@ -1,12 +1,10 @@
 -- The rows that were given of a subject, one bit each.
-use Rattle.std.proofs.Common.{◌≡◌, ◌∙◌, sym, ap, refl, ℕ, ◌≤◌, ◌^◌, ◌&&◌, ◌||◌, Bool, true, false, Option, None, Some, option_map, is_some, slice_get, cond, eqb, nat_eq, arith, inl, inr}
-use Rattle.std.specs.Prelude.{not, if◌then◌else◌}
+use Rattle.std.proofs.Common.{◌≡◌, ◌∙◌, sym, ap, refl, ℕ, ◌≤◌, ◌^◌, ◌&&◌, ◌||◌, Bool, true, false, Option, None, Some, option_map, is_some, slice_get, cond, eqb, nat_eq, arith, inl, inr, not, if◌then◌else◌}
 use Rattle.std.specs.Int.Bits.{bit_and, bit_or}
 use Rattle.std.proofs.lemmas.Grind.{common_steps}
 use Rattle.std.proofs.lemmas.Bool.{cases_Bool, eqb-true, ne_eqb}
 use Rattle.std.proofs.lemmas.Option.{same_Some, slice_get-map}
 use Rattle.std.proofs.lemmas.Nat.{and_comm, or_comm, and_or_self, and_or_apart, pow_apart, pow_pos}
-use lib.Bits.{and_zero_r}
 use Rattle.std.specs.Option.{option_map_or}
 use Rattle.std.specs.Cmp.{IsEquivalence, decided}
 use Rattle.indexmap.specs.IndexMap.{IndexMap, values, with_value_at, IsUnique}
@@ -18,6 +16,7 @@ use Rattle.soc_reader.specs.declared.keys.Key.{Key}
 use Rattle.soc_reader.specs.Marks.{bits_of, has_row, is_marked, is_same, with_row}
 use Rattle.soc_reader.specs.Grammar.{same_subject, row}
 use Rattle.common_lemmas.proofs.Tests.{both_true}
+use lib.Bits.{and_zero_r}
 
 -- ---- subjects
 

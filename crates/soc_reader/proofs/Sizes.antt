@@ -1,6 +1,5 @@
 -- A keyword is looked for among those of the word's length.
-use Rattle.std.proofs.Common.{◌≡◌, ℕ, ◌<◌, List, [], ◌∷◌, map, filter, length, Bool, true, false, cond, nat_eq, Option, None, Some, refl, sym, ◌∙◌, ap, true≢false, arith}
-use Rattle.std.specs.Prelude.{nat_le}
+use Rattle.std.proofs.Common.{◌≡◌, ℕ, ◌<◌, List, [], ◌∷◌, map, filter, length, Bool, true, false, cond, nat_eq, Option, None, Some, refl, sym, ◌∙◌, ap, true≢false, arith, nat_le}
 use Rattle.std.proofs.lemmas.Grind.{common_steps}
 use Rattle.std.specs.Char.{to_ascii_lowercase}
 use Rattle.std.specs.Cmp.Lexicographic.{as_long}

@@ -3,7 +3,7 @@ pub mod Table
 pub mod Grammar
 pub mod Meaning
 pub mod Steps
-pub mod Known
+pub mod ItemsValue
 pub mod ChipForm
 pub mod Refusals
 pub mod Reads

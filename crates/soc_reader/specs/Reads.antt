@@ -9,7 +9,7 @@ use Rattle.soc_reader.specs.declared.whole.ChipText.{ChipText}
 use Rattle.soc_reader.specs.declared.whole.ReadChip.{ReadChip}
 use Rattle.soc_reader.specs.Table.{Item}
 use Rattle.soc_reader.specs.Grammar.{IsText}
-use Rattle.soc_reader.specs.Known.{Known, known_by, of_known}
+use Rattle.soc_reader.specs.ItemsValue.{ItemsValue, known_by, of_known}
 use Rattle.soc_reader.specs.Steps.{StateOf, between, run}
 use Rattle.soc_reader.specs.Meaning.{chip_of, first_wrong}
 use Rattle.soc_reader.specs.ChipForm.{SaysModules}
@@ -18,10 +18,10 @@ use Rattle.soc_reader.specs.Refusals.{IsRefusedLine}
 use Rattle.soc_reader.specs.Views.{known_of, part_of, totals_of}
 
 -- nothing was read
-abbrev pub nothing_known : StateOf Known
+abbrev pub nothing_known : StateOf ItemsValue
 nothing_known = record { done = known_by []; part = between }
 
-abbrev pub state_of : ChipText → StateOf Known
+abbrev pub state_of : ChipText → StateOf ItemsValue
 state_of text = record { done = known_of text.read.value.kept; part = part_of text.read.value.part }
 
 -- this is what was read of the words

@@ -9,7 +9,7 @@ use Rattle.soc_reader.specs.declared.kept.ReadValue.{ReadValue}
 use Rattle.soc_reader.specs.declared.kept.ReadValue.TheVariants.{Nothing, Word, Count, Flag}
 use Rattle.soc_reader.specs.declared.kept.Total.{Total}
 use Rattle.soc_reader.specs.declared.kept.Total.TheVariants.{Modules, Tests}
-use Rattle.soc_reader.specs.declared.kept.Kept.{Kept}
+use Rattle.soc_reader.specs.declared.kept.ItemsSoFar.{ItemsSoFar}
 use Rattle.soc_reader.specs.declared.kept.ReadPart.{ReadPart}
 use Rattle.soc_reader.specs.declared.kept.ReadPart.TheVariants.{Between, Wants, Counted, Listing, WantsCoordinate, NameOrData}
 use Rattle.outside.specs.declared.reading.Stop.{Stop}
@@ -19,7 +19,7 @@ use Rattle.soc_reader.specs.Grammar.{opens_item, after_item, gives_xy}
 use Rattle.soc_reader.specs.Marks.{is_marked}
 use Rattle.soc_reader.specs.Names.{name_in, is_other_name}
 use Rattle.soc_reader.specs.Drafts.{IsIndexed}
-use Rattle.soc_reader.specs.Known.{Known, of_known, is_given_once, with_total}
+use Rattle.soc_reader.specs.ItemsValue.{ItemsValue, of_known, is_given_once, with_total}
 use Rattle.soc_reader.specs.Steps.{Part, between, wants, counted, listing, wants_coordinate, name_or_data, StateOf, step_at}
 
 abbrev pub value_of : ReadValue → Value
@@ -37,7 +37,7 @@ abbrev pub totals_of : List Total → List Item
 totals_of totals = reverse (map total_item totals)
 
 -- what is known of the items by what is kept
-unfoldable pub known_of : Kept → Known
+unfoldable pub known_of : ItemsSoFar → ItemsValue
 known_of kept = record {
   opened = kept.opened;
   place = kept.after;
@@ -49,7 +49,7 @@ known_of kept = record {
 }
 
 -- Behind an item: all that is kept beside the chip and the names goes on, and these stay.
-pub record WentOn (x : Item) (old new : Kept) : Type 0 where
+pub record WentOn (x : Item) (old new : ItemsSoFar) : Type 0 where
   pub draft : new.draft ≡ old.draft
   pub given : (s : Subject) (k : Key)
       → (not (may_repeat k) && is_marked s k new.given) ≡ (is_given_once s k x || (not (may_repeat k) && is_marked s k old.given))
@@ -73,13 +73,13 @@ is_list (Listing s k read left) = true
 is_list part = false
 
 -- The next state is this part and what is kept; or there is none.
-abbrev pub Steps : Option (StateOf Known) → Result (Unit {0}) Stop → ReadPart → Kept → Type 0
+abbrev pub Steps : Option (StateOf ItemsValue) → Result (Unit {0}) Stop → ReadPart → ItemsSoFar → Type 0
 Steps next (Ok _) part kept = (next ≡ Some (record { done = known_of kept; part = part_of part })) × IsIndexed kept.draft
 Steps next (Err Refused) part kept = next ≡ None
 Steps next (Err NoMemory) part kept = Unit {0}
 
 -- What is known where the text ends here is what is kept; or it ends too early.
-abbrev pub Closes : {U : Type 0} → Option Known → Result U Stop → Kept → Type 0
+abbrev pub Closes : {U : Type 0} → Option ItemsValue → Result U Stop → ItemsSoFar → Type 0
 Closes whole (Ok _) kept = whole ≡ Some (known_of kept)
 Closes whole (Err Refused) kept = whole ≡ None
 Closes whole (Err NoMemory) kept = Unit {0}
@@ -87,4 +87,4 @@ Closes whole (Err NoMemory) kept = Unit {0}
 -- this word goes on with a list, and makes this part of that one
 abbrev pub AddsLength : ReadPart → List ℕ → ReadPart → Type 0
 AddsLength old bytes new =
-    (done : Known) (line : ℕ) → step_at of_known done (part_of old) (bytes, line) ≡ Some (record { done = done; part = part_of new })
+    (done : ItemsValue) (line : ℕ) → step_at of_known done (part_of old) (bytes, line) ≡ Some (record { done = done; part = part_of new })

@@ -4,13 +4,13 @@ ghost use Rattle.soc_reader.specs.Grammar.{opens, after_entry, gives_xy as gives
 ghost use Rattle.soc_reader.specs.Table.{Value, nothing, lengths, may_repeat as repeats, entry, name as named_item, place_data, coordinate};
 ghost use Rattle.soc_reader.specs.Marks.{is_marked};
 ghost use Rattle.soc_reader.specs.Names.{name_in, is_other_name};
-ghost use Rattle.soc_reader.specs.Known.{add, with_total, known_by, is_of_test as says_of_test, may_give as may_be_given, may_name as may_be_named};
+ghost use Rattle.soc_reader.specs.ItemsValue.{add, with_total, known_by, is_of_test as says_of_test, may_give as may_be_given, may_name as may_be_named};
 ghost use Rattle.soc_reader.specs.Drafts.{IsIndexed};
 ghost use Rattle.soc_reader.specs.Views.{value_of, totals_of, known_of, WentOn};
 ghost use Rattle.indexmap.specs.IndexMap.{IsEmpty};
 
 use crate::build::{give_chip, no_chip, put_name, tell_chains, tell_module, tell_test};
-use crate::kept::{Kept, ReadValue, Total};
+use crate::kept::{ItemsSoFar, ReadValue, Total};
 use crate::keys::{After, Given, Key, Subject};
 use crate::marks::{Marks, is_in, mark_given, open_rows};
 use indexmap::IndexMap;
@@ -95,13 +95,13 @@ fn no_marks(alloc: Global, bytes: usize) -> Result<Marks, NoMemory>
 }
 
 /// What is kept of no items, of a text of `bytes` bytes.
-#[tactic(auto, unfolding(crate::specs::Views::known_of, crate::specs::Known::known_by))]
-pub fn nothing_kept<'a>(alloc: Global, bytes: usize) -> Result<Kept<'a>, NoMemory>
+#[tactic(auto, unfolding(crate::specs::Views::known_of, crate::specs::ItemsValue::known_by))]
+pub fn nothing_kept<'a>(alloc: Global, bytes: usize) -> Result<ItemsSoFar<'a>, NoMemory>
     ensures none { IfOk result (λ kept. known_of kept ≡ known_by []) }
     ensures indexed { IfOk result (λ kept. IsIndexed kept.draft) }
 {
     let given = no_marks(alloc, bytes)?;
-    Ok(Kept {
+    Ok(ItemsSoFar {
         draft: no_chip(alloc),
         totals: Vec::new(alloc),
         opened: Subject::Chip,
@@ -177,7 +177,12 @@ fn is_of_test(key: Key) -> bool
 }
 
 /// Goes on behind a keyword with its value.
-fn go_on(kept: &mut Kept<'_>, subject: Subject, key: Key, value: &ReadValue<'_>) -> Result<(), Stop>
+fn go_on(
+    kept: &mut ItemsSoFar<'_>,
+    subject: Subject,
+    key: Key,
+    value: &ReadValue<'_>,
+) -> Result<(), Stop>
     ensures went_on { OnOk result (WentOn (entry subject key (value_of value.now)) kept.old kept.new) }
     ensures memory { OnErr result (result ≡ Err Stop.NoMemory) }
 {
@@ -194,7 +199,7 @@ fn go_on(kept: &mut Kept<'_>, subject: Subject, key: Key, value: &ReadValue<'_>)
 /// Adds a keyword with the word behind it. Most of a text speaks of tests: behind what is said of one nothing else is opened.
 #[inline(always)]
 pub fn add_value(
-    kept: &mut Kept<'_>,
+    kept: &mut ItemsSoFar<'_>,
     subject: Subject,
     key: Key,
     value: ReadValue<'_>,
@@ -226,7 +231,7 @@ pub fn add_value(
 }
 
 /// Adds a keyword behind which no word stands.
-pub fn add_bare(kept: &mut Kept<'_>, subject: Subject, key: Key) -> Result<(), Stop>
+pub fn add_bare(kept: &mut ItemsSoFar<'_>, subject: Subject, key: Key) -> Result<(), Stop>
     requires { IsIndexed kept.old.draft }
     ensures added { OnOk result (known_of kept.new ≡ add (entry subject key nothing) (known_of kept.old)) }
     ensures indexed { OnOk result (IsIndexed kept.new.draft) }
@@ -236,7 +241,12 @@ pub fn add_bare(kept: &mut Kept<'_>, subject: Subject, key: Key) -> Result<(), S
 }
 
 /// Adds a keyword with a list of lengths.
-pub fn add_list(kept: &mut Kept<'_>, subject: Subject, key: Key, list: Vec<u64>) -> Result<(), Stop>
+pub fn add_list(
+    kept: &mut ItemsSoFar<'_>,
+    subject: Subject,
+    key: Key,
+    list: Vec<u64>,
+) -> Result<(), Stop>
     requires { IsIndexed kept.old.draft }
     ensures added { OnOk result (known_of kept.new ≡ add (entry subject key (lengths list.items)) (known_of kept.old)) }
     ensures indexed { OnOk result (IsIndexed kept.new.draft) }
@@ -262,7 +272,7 @@ fn note_name<'a>(
 }
 
 /// Adds the name of a module, which has no other.
-pub fn add_name<'a>(kept: &mut Kept<'a>, number: u64, name: &'a [u8]) -> Result<(), Stop>
+pub fn add_name<'a>(kept: &mut ItemsSoFar<'a>, number: u64, name: &'a [u8]) -> Result<(), Stop>
     requires indexed { IsIndexed kept.old.draft }
     requires free { (known_of kept.old).renamed number name.now ≡ false }
     ensures added { OnOk result (known_of kept.new ≡ add (named_item number name.now) (known_of kept.old)) }
@@ -276,8 +286,8 @@ pub fn add_name<'a>(kept: &mut Kept<'a>, number: u64, name: &'a [u8]) -> Result<
 }
 
 /// Adds the first two words of place data, or a further coordinate.
-#[tactic(auto, unfolding(crate::specs::Views::known_of, crate::specs::Known::add))]
-pub fn add_place(kept: &mut Kept<'_>)
+#[tactic(auto, unfolding(crate::specs::Views::known_of, crate::specs::ItemsValue::add))]
+pub fn add_place(kept: &mut ItemsSoFar<'_>)
     requires { IsIndexed kept.old.draft }
     ensures place { known_of kept.new ≡ add place_data (known_of kept.old) }
     ensures coordinate { known_of kept.new ≡ add coordinate (known_of kept.old) }
@@ -288,7 +298,7 @@ pub fn add_place(kept: &mut Kept<'_>)
 
 /// What is spoken of after the items.
 #[tactic(auto, unfolding(crate::specs::Views::known_of))]
-pub fn opened(kept: &Kept<'_>) -> Subject
+pub fn opened(kept: &ItemsSoFar<'_>) -> Subject
     ensures { result ≡ (known_of kept.now).opened }
 {
     kept.opened
@@ -296,7 +306,7 @@ pub fn opened(kept: &Kept<'_>) -> Subject
 
 /// Where the next item stands.
 #[tactic(auto, unfolding(crate::specs::Views::known_of))]
-pub fn place_after(kept: &Kept<'_>) -> After
+pub fn place_after(kept: &ItemsSoFar<'_>) -> After
     ensures { result ≡ (known_of kept.now).place }
 {
     kept.after
@@ -304,7 +314,7 @@ pub fn place_after(kept: &Kept<'_>) -> After
 
 /// Whether `XY 1` was given.
 #[tactic(auto, unfolding(crate::specs::Views::known_of))]
-pub fn has_xy(kept: &Kept<'_>) -> bool
+pub fn has_xy(kept: &ItemsSoFar<'_>) -> bool
     ensures { result ≡ (known_of kept.now).xy }
 {
     kept.xy
@@ -312,7 +322,7 @@ pub fn has_xy(kept: &Kept<'_>) -> bool
 
 /// Whether this may be given after the items.
 #[tactic(auto, unfolding(crate::specs::Views::known_of))]
-pub fn may_give(kept: &Kept<'_>, subject: Subject, key: Key) -> bool
+pub fn may_give(kept: &ItemsSoFar<'_>, subject: Subject, key: Key) -> bool
     ensures { result ≡ may_be_given subject key (known_of kept.now) }
 {
     may_repeat(key) || !is_in(&kept.given, Given { subject, key })
@@ -330,7 +340,7 @@ fn fits_name(names: &IndexMap<u64, &[u8]>, number: u64, name: &[u8]) -> bool
 
 /// Whether a module may have this name after the items.
 #[tactic(auto, unfolding(crate::specs::Views::known_of))]
-pub fn may_name(kept: &Kept<'_>, number: u64, name: &[u8]) -> bool
+pub fn may_name(kept: &ItemsSoFar<'_>, number: u64, name: &[u8]) -> bool
     ensures may { result ≡ may_be_named number name.now (known_of kept.now) }
     ensures free { result ≡ true → (known_of kept.now).renamed number name.now ≡ false }
 {

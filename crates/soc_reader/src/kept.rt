@@ -29,7 +29,7 @@ pub enum Total {
 
 /// What is kept of the items so far: their chip with their totals, and what the next item is looked up in.
 #[derive(Drop)]
-pub struct Kept<'a> {
+pub struct ItemsSoFar<'a> {
     /// The chip that they say.
     pub draft: Draft,
     /// Their totals, in the order of the text.
@@ -82,6 +82,6 @@ pub enum ReadPart<'a> {
 /// What was read of a text so far: what is kept of whole items, and of an unfinished one what there is.
 #[derive(Drop)]
 pub struct ReadSoFar<'a> {
-    pub kept: Kept<'a>,
+    pub kept: ItemsSoFar<'a>,
     pub part: ReadPart<'a>,
 }

@@ -1,6 +1,6 @@
 //! Reads a text word by word.
 ghost use Rattle.std.specs.Prelude.{◌≡◌, [], true, false, option_map, IfOk, OnErr};
-ghost use Rattle.soc_reader.specs.Known.{add, of_known, may_name as may_be_named};
+ghost use Rattle.soc_reader.specs.ItemsValue.{add, of_known, may_name as may_be_named};
 ghost use Rattle.soc_reader.specs.Drafts.{IsIndexed};
 ghost use Rattle.soc_reader.specs.Steps.{begin_if, after_value, at, between, begun, begin_entry as begins_entry, begin_data as begins_data, begin_free as begins_free, begin as begins, list_from as lists_from, after_length as lists_after, step_value as steps_value, step_counted as steps_counted, step_name as steps_name, step_at, closed_at};
 ghost use Rattle.soc_reader.specs.Views.{value_of, known_of, part_of, is_list, Steps, Closes, AddsLength};
@@ -11,7 +11,7 @@ use crate::collect::{
     add_bare, add_list, add_name, add_place, add_value, has_xy, may_give, may_name, opened,
     place_after,
 };
-use crate::kept::{Kept, ReadPart, ReadValue};
+use crate::kept::{ItemsSoFar, ReadPart, ReadValue};
 use crate::keys::{After, Key, Shape, Subject};
 use crate::lexicon::{
     flag_of, is_coordinate, is_free_word, is_lengths_word, is_letter_word, is_printable, key_of,
@@ -24,7 +24,7 @@ use std::mem::replace;
 
 /// One more keyword with its value.
 fn added<'a>(
-    kept: &mut Kept<'a>,
+    kept: &mut ItemsSoFar<'a>,
     part: &mut ReadPart<'a>,
     subject: Subject,
     key: Key,
@@ -40,7 +40,7 @@ fn added<'a>(
 
 /// After a keyword.
 fn begin_value<'a>(
-    kept: &mut Kept<'a>,
+    kept: &mut ItemsSoFar<'a>,
     part: &mut ReadPart<'a>,
     subject: Subject,
     key: Key,
@@ -121,7 +121,7 @@ fn shape_of(key: Key) -> Shape
 }
 
 /// A keyword, where it may stand and may be given.
-fn begin_entry<'a>(kept: &mut Kept<'a>, part: &mut ReadPart<'a>, key: Key) -> Result<(), Stop>
+fn begin_entry<'a>(kept: &mut ItemsSoFar<'a>, part: &mut ReadPart<'a>, key: Key) -> Result<(), Stop>
     requires { IsIndexed kept.old.draft }
     ensures { Steps (begins_entry of_known (known_of kept.old) key (owner_of key (known_of kept.old).opened)) result part.new kept.new }
 {
@@ -136,7 +136,7 @@ fn begin_entry<'a>(kept: &mut Kept<'a>, part: &mut ReadPart<'a>, key: Key) -> Re
 
 /// A module's name, where it may have that.
 fn name_module<'a>(
-    kept: &mut Kept<'a>,
+    kept: &mut ItemsSoFar<'a>,
     part: &mut ReadPart<'a>,
     number: u64,
     name: &'a [u8],
@@ -154,7 +154,11 @@ fn name_module<'a>(
 }
 
 /// The first word of place data, where it may stand.
-fn begin_data<'a>(kept: &mut Kept<'a>, part: &mut ReadPart<'a>, is_data: bool) -> Result<(), Stop>
+fn begin_data<'a>(
+    kept: &mut ItemsSoFar<'a>,
+    part: &mut ReadPart<'a>,
+    is_data: bool,
+) -> Result<(), Stop>
     requires { IsIndexed kept.old.draft }
     ensures { Steps (begins_data (known_of kept.old) is_data (known_of kept.old).opened) result part.new kept.new }
 {
@@ -166,7 +170,11 @@ fn begin_data<'a>(kept: &mut Kept<'a>, part: &mut ReadPart<'a>, is_data: bool) -
 }
 
 /// A word that is no keyword, where it may be a name or begin place data.
-fn begin_free<'a>(kept: &mut Kept<'a>, part: &mut ReadPart<'a>, word: &'a [u8]) -> Result<(), Stop>
+fn begin_free<'a>(
+    kept: &mut ItemsSoFar<'a>,
+    part: &mut ReadPart<'a>,
+    word: &'a [u8],
+) -> Result<(), Stop>
     requires { IsIndexed kept.old.draft }
     ensures { Steps (begins_free of_known (known_of kept.old) word.now (known_of kept.old).place (known_of kept.old).opened) result
         part.new kept.new }
@@ -188,7 +196,11 @@ fn begin_free<'a>(kept: &mut Kept<'a>, part: &mut ReadPart<'a>, word: &'a [u8]) 
 }
 
 /// The first word of an item.
-fn begin_item<'a>(kept: &mut Kept<'a>, part: &mut ReadPart<'a>, word: &'a [u8]) -> Result<(), Stop>
+fn begin_item<'a>(
+    kept: &mut ItemsSoFar<'a>,
+    part: &mut ReadPart<'a>,
+    word: &'a [u8],
+) -> Result<(), Stop>
     requires { IsIndexed kept.old.draft }
     ensures { Steps (begins of_known (known_of kept.old) word.now) result part.new kept.new }
 {
@@ -208,7 +220,7 @@ fn begin_item<'a>(kept: &mut Kept<'a>, part: &mut ReadPart<'a>, word: &'a [u8]) 
 
 /// After a keyword and its value.
 fn give_value<'a>(
-    kept: &mut Kept<'a>,
+    kept: &mut ItemsSoFar<'a>,
     part: &mut ReadPart<'a>,
     subject: Subject,
     key: Key,
@@ -225,7 +237,7 @@ fn give_value<'a>(
 
 /// Goes on with a list that has `left` lengths to come. Without any it is whole, and is added.
 fn go_on_listing<'a>(
-    kept: &mut Kept<'a>,
+    kept: &mut ItemsSoFar<'a>,
     part: &mut ReadPart<'a>,
     subject: Subject,
     key: Key,
@@ -272,7 +284,7 @@ fn word_value<'a>(shape: Shape, word: Word<'a>) -> Option<ReadValue<'a>>
 
 /// The word behind a keyword.
 fn step_value<'a>(
-    kept: &mut Kept<'a>,
+    kept: &mut ItemsSoFar<'a>,
     part: &mut ReadPart<'a>,
     subject: Subject,
     key: Key,
@@ -301,7 +313,7 @@ fn step_value<'a>(
 
 /// Reads one more length of a list, which then has `left` lengths to come.
 fn step_length<'a>(
-    kept: &mut Kept<'a>,
+    kept: &mut ItemsSoFar<'a>,
     part: &mut ReadPart<'a>,
     subject: Subject,
     key: Key,
@@ -333,7 +345,7 @@ fn no_lengths(alloc: Global, count: u64) -> Result<Vec<u64>, Stop>
 /// Directly after the number of scan chains.
 fn step_counted<'a>(
     alloc: Global,
-    kept: &mut Kept<'a>,
+    kept: &mut ItemsSoFar<'a>,
     part: &mut ReadPart<'a>,
     subject: Subject,
     key: Key,
@@ -358,7 +370,7 @@ fn step_counted<'a>(
 
 /// After a word that may be a name or begin place data.
 fn step_name<'a>(
-    kept: &mut Kept<'a>,
+    kept: &mut ItemsSoFar<'a>,
     part: &mut ReadPart<'a>,
     number: u64,
     name: &'a [u8],
@@ -404,7 +416,7 @@ fn add_length(part: &mut ReadPart<'_>, word: &[u8]) -> Result<bool, Stop>
 
 /// A word behind some lengths. In the midst of a list nothing is moved.
 fn step_listing<'a>(
-    kept: &mut Kept<'a>,
+    kept: &mut ItemsSoFar<'a>,
     part: &mut ReadPart<'a>,
     word: Word<'a>,
 ) -> Result<(), Stop>
@@ -435,7 +447,7 @@ fn step_listing<'a>(
 /// The next word, wherever it stands.
 pub fn step_word<'a>(
     alloc: Global,
-    kept: &mut Kept<'a>,
+    kept: &mut ItemsSoFar<'a>,
     part: &mut ReadPart<'a>,
     word: Word<'a>,
 ) -> Result<(), Stop>
@@ -478,7 +490,11 @@ pub fn step_word<'a>(
 }
 
 /// The text ends here.
-pub fn close_text<'a>(alloc: Global, kept: &mut Kept<'a>, part: ReadPart<'a>) -> Result<(), Stop>
+pub fn close_text<'a>(
+    alloc: Global,
+    kept: &mut ItemsSoFar<'a>,
+    part: ReadPart<'a>,
+) -> Result<(), Stop>
     requires { IsIndexed kept.old.draft }
     ensures { Closes (closed_at of_known (known_of kept.old) (part_of part.entry)) result kept.new }
 {

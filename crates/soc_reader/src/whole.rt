@@ -5,7 +5,7 @@ ghost use Rattle.soc_reader.specs.Reads.{SayChip, ChipRead};
 ghost use Rattle.outside.specs.Grammars.{IsRead};
 
 use crate::collect::nothing_kept;
-use crate::kept::{Kept, ReadPart, ReadSoFar, Total};
+use crate::kept::{ItemsSoFar, ReadPart, ReadSoFar, Total};
 use crate::reader::{close_text, step_word};
 use crate::totals::first_wrong;
 use outside::{Reader, Stop, Unread, Word, read_text};
@@ -65,11 +65,11 @@ impl<'a> Reader<'a> for ChipText<'a> {
 }
 
 /// The chip that is kept, with its totals.
-fn chip_kept(kept: Kept<'_>) -> ReadChip
+fn chip_kept(kept: ItemsSoFar<'_>) -> ReadChip
     ensures soc { result.soc ≡ kept.entry.draft.soc }
     ensures totals { result.totals ≡ kept.entry.totals }
 {
-    let Kept { draft, totals, .. } = kept;
+    let ItemsSoFar { draft, totals, .. } = kept;
     ReadChip {
         soc: draft.soc,
         totals,

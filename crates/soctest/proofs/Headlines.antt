@@ -28,10 +28,9 @@ use Rattle.soctest.specs.LogReadings.{RefusesFails, with_log}
 use Rattle.soctest.specs.LocateText.{locate_text}
 use Rattle.soctest.specs.ShiftPrograms.{SaysRight, RefusesProgram, accepted_program}
 use Rattle.soctest.specs.Procedures.{with_program, done_with_plan, done_with_sample, sample_refusal, procedure_of}
-use Rattle.soctest.specs.Endings.{Closes, WritesEnding}
-use Rattle.soctest.specs.declared.ending.Ending.{Ending}
+use Rattle.commands.specs.Endings.{EndingValue, Closes, WritesEnding}
 use Rattle.soctest.specs.Headlines.{TellsFails, TellsProgram, Trusts, Headline, SampleHeadline}
-use Rattle.soctest.proofs.Endings.{ends}
+use Rattle.commands.proofs.Endings.{ends}
 use Rattle.soctest.proofs.LogFiles.{after_plan}
 use Rattle.soctest.proofs.TreeFiles.{shown}
 use Rattle.soctest.proofs.PartsServed.{parts_printed}
@@ -106,7 +105,7 @@ headline laws reads command range held sb sa kb ka old new end ends files given 
     trusted laws reads files given (subst (λ c. IfSome c IsInRange) names range) a.0 old new (subst (λ c. Answers (asked procedure_of c) files Done a.0) names a.1) a.2
 
 -- `sample` reads no file, so that its end is as over any files
-pub sample_headline : TrustLaws → SpotsAreReads → (command : Option CommandValue) → IfSome command IsInRange → (sb sa kb ka : ℕ) (old new : Option (List ℕ)) (end : Status) (e : Ending) →
+pub sample_headline : TrustLaws → SpotsAreReads → (command : Option CommandValue) → IfSome command IsInRange → (sb sa kb ka : ℕ) (old new : Option (List ℕ)) (end : Status) (e : EndingValue) →
     ((n seed : ℕ) → command ≡ Some (Sample n seed) → (held : Option Files) → Closes (procedure_of (Sample n seed)) held sb sa e) → WritesEnding e kb ka old end new → SampleHeadline command old end new
 sample_headline laws reads command range sb sa kb ka old new end e closes written n seed is done =
     headline laws reads (Some (Sample n seed)) (subst (λ c. IfSome c IsInRange) is range) (Some empty) sb sa kb ka old new end

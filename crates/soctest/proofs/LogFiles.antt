@@ -11,10 +11,9 @@ use Rattle.fail_locate.proofs.ReadLogs.{reads_logs}
 use Rattle.keyword_text.proofs.Viability.{one_value}
 use Rattle.keyword_text.proofs.Settled.{not_refused, refused_once}
 use Rattle.soctest.specs.LocateText.{locate_text}
-use Rattle.soctest.specs.LogReadings.{RefusesFails}
+use Rattle.soctest.specs.LogReadings.{RefusesFails, with_log}
 use Rattle.soctest.specs.Texts.{log_line}
 use Rattle.commands.specs.Procedures.{Procedure, done_with}
-use Rattle.soctest.specs.LogReadings.{with_log}
 use Rattle.commands.specs.Settled.{SaysOne, RefusesOne, IsSettled}
 use Rattle.commands.proofs.Settled.{done_once}
 

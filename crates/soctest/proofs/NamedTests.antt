@@ -1,6 +1,5 @@
 -- The test that a name is of.
-use Rattle.std.proofs.Common.{◌≡◌, ◌∙◌, ℕ, ◌<◌, Bool, true, Option, None, Some, length, get_or, position, nat_eq, option_map, refl, sym, ap}
-use Rattle.std.specs.Prelude.{slice_get, if◌then◌else◌}
+use Rattle.std.proofs.Common.{◌≡◌, ◌∙◌, ℕ, ◌<◌, Bool, true, Option, None, Some, length, get_or, position, nat_eq, option_map, refl, sym, ap, slice_get, if◌then◌else◌}
 use Rattle.std.proofs.lemmas.List.Quantifiers.{position-Some}
 use Rattle.std.proofs.lemmas.Option.{slice_get_read, same_Some}
 use Rattle.soc_model.specs.declared.TestId.{TestId}

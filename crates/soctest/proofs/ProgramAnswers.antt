@@ -1,6 +1,5 @@
 -- What is answered of a program: a text says one, or is refused in one line.
-use Rattle.std.proofs.Common.{◌≡◌, inl, inr, ℕ, ◌≤◌, List, map, get_or, true, Option, None, Some, Result, Ok, Err, IfOk, length, refl, ap, sym, ◌∙◌, subst, arith}
-use Rattle.std.specs.Prelude.{IsTrue, slice_get}
+use Rattle.std.proofs.Common.{◌≡◌, inl, inr, ℕ, ◌≤◌, List, map, get_or, true, Option, None, Some, Result, Ok, Err, IfOk, length, refl, ap, sym, ◌∙◌, subst, arith, IsTrue, slice_get}
 use Rattle.std.proofs.lemmas.Bool.{and_parts}
 use Rattle.std.proofs.lemmas.Option.{get_or_from_slice_get}
 use Rattle.std.specs.Global.{Vec}

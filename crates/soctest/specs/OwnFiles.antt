@@ -1,10 +1,5 @@
 -- A file that one command alone has, behind the files that its answer rests on.
 use Rattle.std.specs.Prelude.{ℕ, List}
-use Rattle.soc_model.specs.Chips.{soc_value}
-use Rattle.soc_model.specs.SoundChips.{IsSoundChip}
-use Rattle.plan_model.specs.Rules.{IsGood, IsGoodAlone}
-use Rattle.plan_model.specs.SoundLimits.{IsSoundLimits}
-use Rattle.plan_model.specs.Views.{limits_value, plan_value}
 use Rattle.fail_locate.specs.LogAnswers.{SaysLog}
 use Rattle.commands.specs.declared.FileKind.{FileKind}
 use Rattle.commands.specs.declared.FileKind.TheVariants.{Log, Tree, Program}
@@ -20,31 +15,24 @@ use Rattle.soctest.specs.TreeTexts.{bound_line}
 use Rattle.soctest.specs.ShiftPrograms.{SaysRight, RefusesProgram, accepted_program}
 use Rattle.soctest.specs.Procedures.{with_bound, with_program}
 
--- what the answer rests on is sound
-abbrev pub IsServed : OwnFile → Type 0
-IsServed (own.Log soc plan) = IsSoundChip (soc_value soc.now) × IsGoodAlone (soc_value soc.now) (plan_value plan.now)
-IsServed (own.Tree soc limits) = IsSoundChip (soc_value soc.now) × IsSoundLimits (soc_value soc.now) (limits_value limits.now)
-IsServed (own.Program soc limits plan) =
-    IsSoundChip (soc_value soc.now) × IsGood (soc_value soc.now) (limits_value limits.now) (plan_value plan.now)
-
 abbrev pub kind_of : OwnFile → FileKind
-kind_of (own.Log soc plan) = Log
-kind_of (own.Tree soc limits) = Tree
-kind_of (own.Program soc limits plan) = Program
+kind_of (own.Log all) = Log
+kind_of (own.Tree both) = Tree
+kind_of (own.Program all) = Program
 
 -- the verdict on its bytes
 abbrev pub AnswersOwn : OwnFile → List ℕ → Verdict → Type 0
-AnswersOwn (own.Log soc plan) bytes verdict =
-    AnswersBytes SaysLog RefusesFails (locate_text (soc_value soc.now) (plan_value plan.now)) bytes verdict
-AnswersOwn (own.Tree soc limits) bytes verdict = AnswersBytes (SaysBound (soc_value soc.now) (limits_value limits.now))
-    (RefusesTree (soc_value soc.now) (limits_value limits.now)) bound_line bytes verdict
-AnswersOwn (own.Program soc limits plan) bytes verdict =
-    AnswersBytes (SaysRight (soc_value soc.now) (plan_value plan.now)) (RefusesProgram (soc_value soc.now) (plan_value plan.now))
-    (accepted_program (soc_value soc.now) (plan_value plan.now)) bytes verdict
+AnswersOwn (own.Log all) bytes verdict =
+    AnswersBytes SaysLog RefusesFails (locate_text all.now.soc all.now.plan) bytes verdict
+AnswersOwn (own.Tree both) bytes verdict = AnswersBytes (SaysBound both.now.soc both.now.limits)
+    (RefusesTree both.now.soc both.now.limits) bound_line bytes verdict
+AnswersOwn (own.Program all) bytes verdict =
+    AnswersBytes (SaysRight all.now.soc all.now.plan) (RefusesProgram all.now.soc all.now.plan)
+    (accepted_program all.now.soc all.now.plan) bytes verdict
 
 -- from a file of this name on
 abbrev pub with_own : OwnFile → (name : List ℕ) → Procedure
-with_own (own.Log soc plan) name = with_log name (λ fails. done_with (locate_text (soc_value soc.now) (plan_value plan.now) fails))
-with_own (own.Tree soc limits) name = with_bound name (soc_value soc.now) (limits_value limits.now)
-with_own (own.Program soc limits plan) name = with_program (soc_value soc.now) (plan_value plan.now) name
-    (λ shifts. done_with (accepted_program (soc_value soc.now) (plan_value plan.now) shifts))
+with_own (own.Log all) name = with_log name (λ fails. done_with (locate_text all.now.soc all.now.plan fails))
+with_own (own.Tree both) name = with_bound name both.now.soc both.now.limits
+with_own (own.Program all) name = with_program all.now.soc all.now.plan name
+    (λ shifts. done_with (accepted_program all.now.soc all.now.plan shifts))

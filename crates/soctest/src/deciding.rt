@@ -5,7 +5,6 @@ ghost use Rattle.outside.specs.Held.{Files};
 ghost use Rattle.soc_model.specs.Chips.{soc_value};
 ghost use Rattle.soc_model.specs.SoundChips.{IsSoundChip};
 ghost use Rattle.plan_model.specs.Plans.{PlanValue};
-ghost use Rattle.plan_model.specs.Rules.{IsGoodAlone, live_ids};
 ghost use Rattle.plan_model.specs.SoundLimits.{IsSoundLimits};
 ghost use Rattle.plan_model.specs.Views.{limits_value, plan_value};
 ghost use Rattle.plan_text.specs.PlanLines.{plan_text};
@@ -15,8 +14,10 @@ ghost use Rattle.planner.specs.Plans.{IsPlanned};
 ghost use Rattle.plan_model.specs.declared.TheConstants.{WIRES_MOST};
 ghost use Rattle.commands.specs.Commands.{Print, Widths, Plan as MakePlan, Check, Chart, Vectors, Sample, Locate, Tree, Split, Shift, IsInRange, command_of as asked_command};
 ghost use Rattle.commands.specs.Procedures.{asked};
-ghost use Rattle.soctest.specs.Endings.{Closes, IsRunnable, LoadsEnding};
+ghost use Rattle.commands.specs.Endings.{Closes, LoadsEnding};
+ghost use Rattle.soctest.specs.Endings.{ending_value};
 ghost use Rattle.soctest.specs.Procedures.{procedure_of};
+ghost use Rattle.soctest.specs.Texts.{accepted_line as accepted_text};
 ghost use Rattle.commands.specs.Decides.{Follows};
 ghost use Rattle.commands.specs.Ends.{IsCommand};
 ghost use Rattle.commands.specs.Loads.{LoadsGive};
@@ -32,8 +33,7 @@ use commands::{
     Accepted, Both, Command, Status, Verdict, answered_with, bad_words, command_of, load_all,
     load_both, load_chip,
 };
-use limits_text::{noted_tests, resolved_of};
-use live_tests::LiveTests;
+use live_tests::{Problem, Resolved};
 use outside::{NoMemory, Shelf};
 use plan_model::{Limits, Plan, good_without_limits};
 use plan_text::print_plan;
@@ -74,20 +74,11 @@ fn decide_widths<H: Shelf>(alloc: Global, soc: &str, wires: u64, shelf: &mut H) 
     }
 }
 
-/// The planner's plan, whose search estimates where a test would end if it were placed now. The live tests of the chip are made
-/// where they weren't noted. `NoMemory` where memory runs out, and for no other reason.
-pub(crate) fn planned(
-    alloc: Global,
-    soc: &Soc,
-    limits: &Limits,
-    live: Option<LiveTests>,
-) -> Result<Plan, NoMemory>
-    requires chip { IsSoundChip (soc_value soc.now) }
-    requires limits { IsSoundLimits (soc_value soc.now) (limits_value limits.now) }
-    requires live { IfSome live (λ tests. tests ≡ live_ids (soc_value soc.now)) }
-    ensures { IfOk result (λ plan. IsPlanned (soc_value soc.now) (limits_value limits.now) (plan_value plan)) }
+/// The planner's plan, whose search estimates where a test would end if it were placed now. `NoMemory` where memory runs out, and for
+/// no other reason.
+pub(crate) fn planned(alloc: Global, problem: &Problem<'_>) -> Result<Plan, NoMemory>
+    ensures { IfOk result (λ plan. IsPlanned problem.now.soc problem.now.limits (plan_value plan)) }
 {
-    let resolved = resolved_of(alloc, soc, limits, live)?;
     let ahead = Ahead::new(
         |table: &Table<'_>, test: usize| -> u64
             requires { CanAsk table.now test }
@@ -95,23 +86,27 @@ pub(crate) fn planned(
             ensures most { IsAtMostNow table.now test result }
         { table.end_now(test) },
     );
-    plan_with(alloc, soc, limits, &resolved, ahead)
+    plan_with(alloc, problem, ahead)
+}
+
+/// The planner's plan for a chip and limits that aren't resolved yet.
+pub(crate) fn planned_for(alloc: Global, soc: &Soc, limits: &Limits) -> Result<Plan, NoMemory>
+    requires chip { IsSoundChip (soc_value soc.now) }
+    requires limits { IsSoundLimits (soc_value soc.now) (limits_value limits.now) }
+    ensures { IfOk result (λ plan. IsPlanned (soc_value soc.now) (limits_value limits.now) (plan_value plan)) }
+{
+    let resolved = Resolved::new(alloc, soc, limits)?;
+    let problem = Problem::new(soc, limits, &resolved);
+    let plan = planned(alloc, &problem)?;
+    Ok(plan)
 }
 
 /// The text of the planner's plan.
-fn text_of_plan(
-    alloc: Global,
-    soc: &Soc,
-    limits: &Limits,
-    live: Option<LiveTests>,
-) -> Result<Vec<u8>, NoMemory>
-    requires chip { IsSoundChip (soc_value soc.now) }
-    requires limits { IsSoundLimits (soc_value soc.now) (limits_value limits.now) }
-    requires live { IfSome live (λ tests. tests ≡ live_ids (soc_value soc.now)) }
-    ensures { IfOk result (λ text. (value : PlanValue) × IsPlanned (soc_value soc.now) (limits_value limits.now) value
+fn text_of_plan(alloc: Global, both: &Both) -> Result<Vec<u8>, NoMemory>
+    ensures { IfOk result (λ text. (value : PlanValue) × IsPlanned both.now.soc both.now.limits value
         × (text.items ≡ plan_text value)) }
 {
-    let plan = planned(alloc, soc, limits, live)?;
+    let plan = planned(alloc, &both.problem())?;
     print_plan(alloc, &plan)
 }
 
@@ -126,11 +121,19 @@ fn decide_plan<H: Shelf>(alloc: Global, soc: &str, limits: &str, shelf: &mut H) 
 {
     match load_both(alloc, soc, limits, shelf) {
         Ok(both) => {
-            let Both { soc, limits, live } = both;
-            answered_with(Status::Done, text_of_plan(alloc, &soc, &limits, live))
+            let text = text_of_plan(alloc, &both);
+            both.free();
+            answered_with(Status::Done, text)
         }
         Err(verdict) => verdict,
     }
+}
+
+/// The line of a plan that is accepted.
+fn accepted_line_of(alloc: Global, all: &Accepted) -> Result<Vec<u8>, NoMemory>
+    ensures { IfOk result (λ text. text.items ≡ accepted_text all.now.plan) }
+{
+    accepted_line(alloc, &all.plan)
 }
 
 /// `check SOC LIMITS PLAN`: the cycles and the bound of a plan that is accepted.
@@ -149,25 +152,21 @@ fn decide_check<H: Shelf>(
         shelf.old result shelf.new }
 {
     match load_all(alloc, soc, limits, plan, shelf) {
-        Ok(all) => answered_with(Status::Done, accepted_line(alloc, &all.plan)),
+        Ok(all) => {
+            let line = accepted_line_of(alloc, &all);
+            all.free();
+            answered_with(Status::Done, line)
+        }
         Err(verdict) => verdict,
     }
 }
 
-/// The chart of a good plan. The live tests of the chip are made where they weren't noted.
-fn chart_of(
-    alloc: Global,
-    soc: &Soc,
-    plan: &Plan,
-    live: Option<LiveTests>,
-) -> Result<Vec<u8>, NoMemory>
-    requires chip { IsSoundChip (soc_value soc.now) }
-    requires good { IsGoodAlone (soc_value soc.now) (plan_value plan.now) }
-    requires live { IfSome live (λ tests. tests ≡ live_ids (soc_value soc.now)) }
-    ensures { IfOk result (λ text. text.items ≡ chart_text (soc_value soc.now) (plan_value plan.now)) }
+/// The chart of a plan that is accepted.
+fn chart_of(alloc: Global, all: &Accepted) -> Result<Vec<u8>, NoMemory>
+    ensures { IfOk result (λ text. text.items ≡ chart_text all.now.soc all.now.plan) }
 {
-    let names = noted_tests(alloc, soc, live)?;
-    print_chart_with(alloc, soc, plan, names)
+    good_without_limits();
+    print_chart_with(alloc, &all.soc, &all.plan, &all.resolved.tests)
 }
 
 /// `chart SOC LIMITS PLAN`: the schedule of a plan that is accepted.
@@ -187,14 +186,9 @@ fn decide_chart<H: Shelf>(
 {
     match load_all(alloc, soc, limits, plan, shelf) {
         Ok(all) => {
-            good_without_limits();
-            let Accepted {
-                soc,
-                limits: _limits,
-                plan,
-                live,
-            } = all;
-            answered_with(Status::Done, chart_of(alloc, &soc, &plan, live))
+            let text = chart_of(alloc, &all);
+            all.free();
+            answered_with(Status::Done, text)
         }
         Err(verdict) => verdict,
     }
@@ -212,10 +206,9 @@ fn decide_vectors<H: Shelf>(
     ensures held_stays { H.held shelf.new ≡ H.held shelf.old }
     ensures faults_never_fall { H.faults shelf.old ≤ H.faults shelf.new }
     ensures closes { Closes (procedure_of (Vectors soc.now limits.now plan.now seed)) (H.held shelf.old) (H.faults shelf.old)
-        (H.faults shelf.new) result }
+        (H.faults shelf.new) (ending_value result) }
     ensures by_loads { LoadsEnding H.is_load
-        (procedure_of (Vectors soc.now limits.now plan.now seed)) shelf.old result shelf.new }
-    ensures runnable { IsRunnable result }
+        (procedure_of (Vectors soc.now limits.now plan.now seed)) shelf.old (ending_value result) shelf.new }
 {
     match load_all(alloc, soc, limits, plan, shelf) {
         Ok(all) => Ending::Run { all, seed },
@@ -240,11 +233,7 @@ fn decide_tree<H: Shelf>(
 {
     match load_both(alloc, soc, limits, shelf) {
         Ok(both) => {
-            let own = OwnFile::Tree {
-                soc: &both.soc,
-                limits: &both.limits,
-            };
-            let verdict = answer_own_file(alloc, own, tree, shelf);
+            let verdict = answer_own_file(alloc, OwnFile::Tree(&both), tree, shelf);
             both.free();
             verdict
         }
@@ -270,12 +259,7 @@ fn decide_locate<H: Shelf>(
 {
     match load_all(alloc, soc, limits, plan, shelf) {
         Ok(all) => {
-            good_without_limits();
-            let own = OwnFile::Log {
-                soc: &all.soc,
-                plan: &all.plan,
-            };
-            let verdict = answer_own_file(alloc, own, log, shelf);
+            let verdict = answer_own_file(alloc, OwnFile::Log(&all), log, shelf);
             all.free();
             verdict
         }
@@ -301,12 +285,7 @@ fn decide_shift<H: Shelf>(
 {
     match load_all(alloc, soc, limits, plan, shelf) {
         Ok(all) => {
-            let own = OwnFile::Program {
-                soc: &all.soc,
-                limits: &all.limits,
-                plan: &all.plan,
-            };
-            let verdict = answer_own_file(alloc, own, program, shelf);
+            let verdict = answer_own_file(alloc, OwnFile::Program(&all), program, shelf);
             all.free();
             verdict
         }
@@ -319,15 +298,14 @@ pub fn decide<H: Shelf>(alloc: Global, words: &[String], shelf: &mut H) -> Endin
     ensures held_stays { H.held shelf.new ≡ H.held shelf.old }
     ensures faults_never_fall { H.faults shelf.old ≤ H.faults shelf.new }
     ensures closes { Closes (asked procedure_of (asked_command (map string_bytes words.now))) (H.held shelf.old) (H.faults shelf.old)
-        (H.faults shelf.new) result }
+        (H.faults shelf.new) (ending_value result) }
     ensures by_loads { LoadsEnding H.is_load
         (asked procedure_of (asked_command (map string_bytes words.now)))
-        shelf.old result shelf.new }
-    ensures runnable { IsRunnable result }
+        shelf.old (ending_value result) shelf.new }
     ensures untouched { (IsCommand (asked procedure_of (asked_command (map string_bytes words.now))) → ⊥) → shelf.new ≡ shelf.old }
     ensures range { IfSome (asked_command (map string_bytes words.now)) IsInRange }
     ensures sampled { (n seed : ℕ) → asked_command (map string_bytes words.now) ≡ Some (Sample n seed) → (held : Option Files) →
-        Closes (procedure_of (Sample n seed)) held (H.faults shelf.old) (H.faults shelf.new) result }
+        Closes (procedure_of (Sample n seed)) held (H.faults shelf.old) (H.faults shelf.new) (ending_value result) }
 {
     match command_of(words) {
         Some(Command::Print { soc }) => Ending::Decided(decide_print(alloc, soc, shelf)),

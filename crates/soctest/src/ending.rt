@@ -8,7 +8,8 @@ ghost use Rattle.bit_machine.specs.Chips.{wires_of, made_content};
 ghost use Rattle.tester_vectors.specs.VectorText.{vector_text, too_many};
 ghost use Rattle.commands.specs.Ends.{WritesUnless, MakesPuts};
 ghost use Rattle.commands.specs.Texts.{run_refusal};
-ghost use Rattle.soctest.specs.Endings.{IsRunnable, WritesEnding, PutsEnding};
+ghost use Rattle.commands.specs.Endings.{WritesEnding, PutsEnding};
+ghost use Rattle.soctest.specs.Endings.{ending_value};
 
 use commands::{Accepted, Status, Verdict, refused_with, run_line, write_verdict};
 use outside::Sink;
@@ -49,18 +50,30 @@ fn write_run<K: Sink>(alloc: Global, soc: &Soc, plan: &Plan, seed: u64, out: &mu
     }
 }
 
+/// Writes the vectors of a plan that is accepted.
+fn write_accepted<K: Sink>(alloc: Global, all: &Accepted, seed: u64, out: &mut K) -> Status
+    ensures faults_never_fall { K.faults out.old ≤ K.faults out.new }
+    ensures written { WritesUnless (run_refusal (too_many all.now.plan)) (vector_text all.now.soc all.now.plan
+        (made_content all.now.soc seed)) (K.faults out.old) (K.faults out.new) (K.written out.old) result (K.written out.new) }
+    ensures puts { MakesPuts K.is_put out.old result out.new }
+{
+    good_without_limits();
+    write_run(alloc, &all.soc, &all.plan, seed, out)
+}
+
 /// Writes what a call ends with, and answers its status.
 pub fn write_ending<K: Sink>(alloc: Global, ending: Ending, out: &mut K) -> Status
-    requires { IsRunnable ending }
     ensures faults_never_fall { K.faults out.old ≤ K.faults out.new }
-    ensures written { WritesEnding ending (K.faults out.old) (K.faults out.new) (K.written out.old) result (K.written out.new) }
-    ensures puts { PutsEnding K.is_put ending out.old result out.new }
+    ensures written { WritesEnding (ending_value ending) (K.faults out.old) (K.faults out.new) (K.written out.old) result
+        (K.written out.new) }
+    ensures puts { PutsEnding K.is_put (ending_value ending) out.old result out.new }
 {
     match ending {
         Ending::Decided(verdict) => write_verdict(verdict, out),
         Ending::Run { all, seed } => {
-            good_without_limits();
-            write_run(alloc, &all.soc, &all.plan, seed, out)
+            let status = write_accepted(alloc, &all, seed, out);
+            all.free();
+            status
         }
     }
 }

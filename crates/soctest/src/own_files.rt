@@ -2,36 +2,24 @@
 ghost use Rattle.std.specs.Prelude.{◌≡◌, ◌≤◌};
 ghost use Rattle.commands.specs.Decides.{Follows};
 ghost use Rattle.commands.specs.Loads.{LoadsGive};
-ghost use Rattle.soctest.specs.OwnFiles.{AnswersOwn, IsServed, kind_of as own_kind, with_own};
+ghost use Rattle.soctest.specs.OwnFiles.{AnswersOwn, kind_of as own_kind, with_own};
 
 use crate::logs::answer_log;
 use crate::programs::answer_program;
 use crate::trees::answer_tree;
-use commands::{FileKind, Verdict, load_file};
+use commands::{Accepted, Both, FileKind, Verdict, load_file};
 use outside::Shelf;
-use plan_model::{Limits, Plan};
-use soc_model::Soc;
 use std::alloc::Global;
 
 /// Such a file by its kind, with what its answer rests on.
 #[derive(Clone, Copy)]
 pub enum OwnFile<'a> {
-    /// A fail log, with a chip and a plan that is good.
-    Log {
-        soc: &'a Soc,
-        plan: &'a Plan,
-    },
-    /// A width tree, with a chip and limits for it.
-    Tree {
-        soc: &'a Soc,
-        limits: &'a Limits,
-    },
-    /// A program of shifts, with a chip, limits and a plan that is good.
-    Program {
-        soc: &'a Soc,
-        limits: &'a Limits,
-        plan: &'a Plan,
-    },
+    /// A fail log, of a plan that is accepted.
+    Log(&'a Accepted),
+    /// A width tree, for a chip and its limits.
+    Tree(&'a Both),
+    /// A program of shifts, for a plan that is accepted.
+    Program(&'a Accepted),
 }
 
 /// The kind of the file.
@@ -39,21 +27,20 @@ fn kind_of(own: OwnFile<'_>) -> FileKind
     ensures { result ≡ own_kind own.entry }
 {
     match own {
-        OwnFile::Log { .. } => FileKind::Log,
-        OwnFile::Tree { .. } => FileKind::Tree,
-        OwnFile::Program { .. } => FileKind::Program,
+        OwnFile::Log(_) => FileKind::Log,
+        OwnFile::Tree(_) => FileKind::Tree,
+        OwnFile::Program(_) => FileKind::Program,
     }
 }
 
 /// What is answered of the bytes of the file.
 fn answer_bytes(alloc: Global, own: OwnFile<'_>, bytes: &[u8]) -> Verdict
-    requires { IsServed own }
     ensures { AnswersOwn own.entry bytes.now result }
 {
     match own {
-        OwnFile::Log { soc, plan } => answer_log(alloc, soc, plan, bytes),
-        OwnFile::Tree { soc, limits } => answer_tree(alloc, soc, limits, bytes),
-        OwnFile::Program { soc, limits, plan } => answer_program(alloc, soc, limits, plan, bytes),
+        OwnFile::Log(all) => answer_log(alloc, all, bytes),
+        OwnFile::Tree(both) => answer_tree(alloc, &both.soc, &both.limits, bytes),
+        OwnFile::Program(all) => { answer_program(alloc, &all.soc, &all.limits, &all.plan, bytes) },
     }
 }
 
@@ -64,7 +51,6 @@ pub(crate) fn answer_own_file<H: Shelf>(
     name: &str,
     shelf: &mut H,
 ) -> Verdict
-    requires { IsServed own }
     ensures held_stays { H.held shelf.new ≡ H.held shelf.old }
     ensures faults_never_fall { H.faults shelf.old ≤ H.faults shelf.new }
     ensures follows { Follows (with_own own.entry name.now) (H.held shelf.old) (H.faults shelf.old) (H.faults shelf.new) result }

@@ -15,7 +15,7 @@ ghost use Rattle.soctest.specs.Samples.{sample_limits, sample_line as sample_lin
 ghost use Rattle.commands.specs.Texts.{is_line, two_numbers};
 ghost use Rattle.commands.specs.Decides.{Follows};
 
-use crate::deciding::planned;
+use crate::deciding::planned_for;
 use commands::{
     Status, Verdict, answered_with, numbered, push_decimal, push_text, push_two, refused_with,
 };
@@ -123,7 +123,7 @@ fn checked_plan(alloc: Global, soc: &Soc, limits: &Limits) -> Result<Plan, NoMem
     requires limits { IsSoundLimits (soc_value soc.now) (limits_value limits.now) }
     ensures { IfOk result (λ plan. IsPlanned (soc_value soc.now) (limits_value limits.now) (plan_value plan)) }
 {
-    let plan = planned(alloc, soc, limits, None)?;
+    let plan = planned_for(alloc, soc, limits)?;
     match first_fault(alloc, soc, limits, &plan)? {
         None => Ok(plan),
         Some(_) => unreachable!(),

@@ -14,10 +14,10 @@ ghost use Rattle.soctest.specs.Procedures.{procedure_of};
 ghost use Rattle.soctest.specs.SplitText.{part_line, parts_text, soc_and_limits, split_line as split_line_text, split_refusal, split_text as text_of_parts};
 ghost use Rattle.commands.specs.Texts.{is_line};
 
-use crate::deciding::planned;
+use crate::deciding::planned_for;
 use commands::{
-    Status, Verdict, answered_with, limit_word, load_both, push_decimal, push_test, push_text,
-    push_two, refused_with,
+    Both, Status, Verdict, answered_with, limit_word, load_both, push_decimal, push_test,
+    push_text, push_two, refused_with,
 };
 use limits_text::print_limits;
 use outside::{NoMemory, Shelf, extend};
@@ -83,7 +83,7 @@ fn planned_split(alloc: Global, split: &Split) -> Result<Vec<u8>, NoMemory>
     ensures { IfOk result (λ text. (value : PlanValue) × IsPlanned (soc_value split.now.soc) (limits_value split.now.limits) value
         × (text.items ≡ text_of_parts (split_value split.now) value)) }
 {
-    let plan = planned(alloc, &split.soc, &split.limits, None)?;
+    let plan = planned_for(alloc, &split.soc, &split.limits)?;
     split_text(alloc, split, &plan)
 }
 
@@ -120,6 +120,17 @@ fn answer_split(alloc: Global, soc: &Soc, limits: &Limits, most: u64) -> Verdict
     }
 }
 
+/// What is answered for a chip under limits.
+fn answer_both(alloc: Global, both: &Both, most: u64) -> Verdict
+    requires { 1 ≤ most }
+    ensures { GivesAny (split_refusal both.now.soc both.now.limits most)
+        (λ (text : List ℕ). (value : PlanValue) × IsPlanned (split_chip both.now.limits most both.now.soc)
+        (split_limits both.now.limits most both.now.soc) value
+        × (text ≡ text_of_parts (parts_of both.now.soc both.now.limits most) value)) result }
+{
+    answer_split(alloc, &both.soc, &both.limits, most)
+}
+
 /// `split SOC LIMITS MOST`: the tests cut into parts of at most `most` patterns, and a plan of the parts.
 pub(crate) fn decide_split<H: Shelf>(
     alloc: Global,
@@ -137,7 +148,11 @@ pub(crate) fn decide_split<H: Shelf>(
         shelf.old result shelf.new }
 {
     match load_both(alloc, soc, limits, shelf) {
-        Ok(both) => answer_split(alloc, &both.soc, &both.limits, most),
+        Ok(both) => {
+            let verdict = answer_both(alloc, &both, most);
+            both.free();
+            verdict
+        }
         Err(verdict) => verdict,
     }
 }

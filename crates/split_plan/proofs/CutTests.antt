@@ -1,8 +1,7 @@
 -- The cut tests of a chip, and their parts.
-use Rattle.std.proofs.Common.{◌≡◌, ◌⊎◌, inl, inr, ℕ, zero, suc, ◌+◌, ◌*◌, ◌<◌, ◌≤◌, true, Some, List, [], ◌∷◌, ◌++◌, length, map, refl, sym, ap, ◌∙◌, subst, arith}
-use Rattle.std.specs.Prelude.{slice_get}
+use Rattle.std.proofs.Common.{◌≡◌, ◌⊎◌, inl, inr, ℕ, zero, suc, ◌+◌, ◌*◌, ◌<◌, ◌≤◌, true, Some, List, [], ◌∷◌, ◌++◌, length, map, refl, sym, ap, ◌∙◌, arith, slice_get, flat_map, sum_by}
 use Rattle.std.specs.Int.{div_ceil}
-use Rattle.std.specs.List.{flat_map, range_with_len, sum_by}
+use Rattle.std.specs.List.{range_with_len}
 use Rattle.std.proofs.lemmas.Bool.{cases_Bool, and_parts}
 use Rattle.std.proofs.lemmas.Bool.Decides.{nat_tests}
 use Rattle.std.proofs.lemmas.Grind.{div_ceil_times}
@@ -27,56 +26,55 @@ use Rattle.common_lemmas.proofs.Lists.{map_twice, map_at, all_at, from_map}
 
 -- ---- how many parts a test has
 
--- of p patterns by s: the parts cover them, and each begins before their end
-pub record AreParts (p n s : ℕ) : Type 0 where
-  pub some : 1 ≤ n
-  pub covers : p ≤ n * s
-  pub size : 1 ≤ p → 1 ≤ s
-  pub begins : (k : ℕ) → k < n → k * s ≤ p
-  pub begins_before : 1 ≤ p → (k : ℕ) → k < n → k * s < p
-  pub few : n ≤ p + 1
+module _ (p : ℕ) where
+  -- of p patterns by s: the parts cover them, and each begins before their end
+  pub record AreParts (n s : ℕ) : Type 0 where
+    pub some : 1 ≤ n
+    pub covers : p ≤ n * s
+    pub size : 1 ≤ p → 1 ≤ s
+    pub begins : (k : ℕ) → k < n → k * s ≤ p
+    pub begins_before : 1 ≤ p → (k : ℕ) → k < n → k * s < p
+    pub few : n ≤ p + 1
 
-several : (p most : ℕ) → 1 ≤ most → 1 ≤ p → AreParts p (div_ceil p most) most
-several p most some live =
-    let up = div_ceil_times p most some in
-    let n : ℕ = div_ceil p most in
-    let high : p ≤ div_ceil p most * most = up.0 in
-    let low : div_ceil p most * most < p + most = up.1 in
-    record {
-      some = one (div_ceil p most) high;
-      covers = high;
-      size = λ h. some;
-      begins = λ k less. let b = before (div_ceil p most) low k less in omega (arith, b);
-      begins_before = λ h k less. before (div_ceil p most) low k less;
-      few = few (div_ceil p most) low;
-    }
-  where
-    one : (n : ℕ) → p ≤ n * most → 1 ≤ n
-    one zero high = let none : 0 * most ≡ 0 = omega arith in absurd (omega (arith, none, high, live))
-    one (suc n) high = omega arith
+  several : (most : ℕ) → 1 ≤ most → 1 ≤ p → AreParts (div_ceil p most) most
+  several most some live =
+      let up = div_ceil_times p most some in
+      let n : ℕ = div_ceil p most in
+      let high : p ≤ div_ceil p most * most = up.0 in
+      let low : div_ceil p most * most < p + most = up.1 in
+      record {
+        some = one (div_ceil p most) high;
+        covers = high;
+        size = λ h. some;
+        begins = λ k less. let b = before (div_ceil p most) low k less in omega arith;
+        begins_before = λ h k less. before (div_ceil p most) low k less;
+        few = few (div_ceil p most) low;
+      }
+    where
+      one : (n : ℕ) → p ≤ n * most → 1 ≤ n
+      one zero high = absurd (omega arith)
+      one (suc n) high = omega arith
 
-    before : (n : ℕ) → n * most < p + most → (k : ℕ) → k < n → k * most < p
-    before n low k less =
-        let le : (k + 1) * most ≤ n * most = mul-le-mul_right most (omega (arith, less)) in
-        let split : (k + 1) * most ≡ k * most + most = omega arith in
-        omega (arith, le, split, low)
+      before : (n : ℕ) → n * most < p + most → (k : ℕ) → k < n → k * most < p
+      before n low k less =
+          let le : (k + 1) * most ≤ n * most = mul-le-mul_right most (omega arith) in
+          omega arith
 
-    few : (n : ℕ) → n * most < p + most → n ≤ p + 1
-    few zero low = omega arith
-    few (suc n) low =
-        let split : suc n * most ≡ n * most + most = omega arith in
-        let le : n * 1 ≤ n * most = mul-le-mul_left n some in
-        omega (arith, split, le, low)
+      few : (n : ℕ) → n * most < p + most → n ≤ p + 1
+      few zero low = omega arith
+      few (suc n) low =
+          let le : n * 1 ≤ n * most = mul-le-mul_left n some in
+          omega arith
 
-one_part : (p : ℕ) → AreParts p 1 p
-one_part p = record {
-  some = omega arith;
-  covers = omega arith;
-  size = λ h. h;
-  begins = λ k less. let none : k ≡ 0 = omega (arith, less) in let e : k * p ≡ 0 = rw none (omega arith) in omega (arith, e);
-  begins_before = λ h k less. let none : k ≡ 0 = omega (arith, less) in let e : k * p ≡ 0 = rw none (omega arith) in omega (arith, e, h);
-  few = omega arith;
-}
+  one_part : AreParts 1 p
+  one_part = record {
+    some = omega arith;
+    covers = omega arith;
+    size = λ h. h;
+    begins = λ k less. let none : k ≡ 0 = omega arith in let e : k * p ≡ 0 = rw none (omega arith) in omega arith;
+    begins_before = λ h k less. let none : k ≡ 0 = omega arith in let e : k * p ≡ 0 = rw none (omega arith) in omega arith;
+    few = omega arith;
+  }
 
 tam_live : (t : Test) → is_tam t ≡ true → 1 ≤ t.patterns
 tam_live t tam = let live = (and_parts (is_live t) t.tam tam).0 in grind (arith, nat_tests)
@@ -89,87 +87,87 @@ are_parts most t some = elim (cases_Bool (is_tam t)) [
 
 -- ---- where a cut test comes from
 
--- a cut test of a module
-pub record IsCut (limits : LimitsValue) (most : ℕ) (home : ℕ) (ts : List Test) (c : Cut) : Type 0 where
-  pub at : ℕ
-  pub test_at : slice_get ts at ≡ Some c.test
-  pub is : c ≡ cut_of limits most home c.number c.test
+module _ (limits : LimitsValue) (most : ℕ) where
+  module _ (home : ℕ) where
+    -- a cut test of a module
+    pub record IsCut (ts : List Test) (c : Cut) : Type 0 where
+      pub at : ℕ
+      pub test_at : slice_get ts at ≡ Some c.test
+      pub is : c ≡ cut_of limits most home c.number c.test
 
-pub cut_from : (limits : LimitsValue) (most home number : ℕ) (ts : List Test) (i : ℕ) (c : Cut) → slice_get (cuts_from limits most home number ts) i ≡ Some c → IsCut limits most home ts c
-cut_from limits most home number [] i c e = absurd cc
-cut_from limits most home number (t ∷ ts) zero c e =
-    let same : cut_of limits most home number t ≡ c = cc in
-    subst (λ (c : Cut). IsCut limits most home (t ∷ ts) c) same (record { at = 0; test_at = refl; is = refl })
-cut_from limits most home number (t ∷ ts) (suc i) c e =
-    let r = cut_from limits most home (number + part_count most t) ts i c e in
-    record { at = suc r.at; test_at = r.test_at; is = r.is }
+    pub cut_from : (number : ℕ) (ts : List Test) (i : ℕ) (c : Cut) → slice_get (cuts_from limits most home number ts) i ≡ Some c → IsCut ts c
+    cut_from number [] i c e = absurd cc
+    cut_from number (t ∷ ts) zero c e =
+        let same : cut_of limits most home number t ≡ c = cc in
+        rw (← same) (record { at = 0; test_at = refl; is = refl })
+    cut_from number (t ∷ ts) (suc i) c e =
+        let r = cut_from (number + part_count most t) ts i c e in
+        record { at = suc r.at; test_at = r.test_at; is = r.is }
 
--- a cut test of the chip, with its module
-pub record IsCutOf (limits : LimitsValue) (most : ℕ) (soc : SocValue) (c : Cut) : Type 0 where
-  pub place : ℕ
-  pub core : ModuleValue
-  pub core_at : slice_get soc.modules place ≡ Some core
-  pub nth : ℕ
-  pub nth_is : slice_get (cuts_in limits most core) nth ≡ Some c
-  pub cut : IsCut limits most core.number core.tests c
+  -- a cut test of the chip, with its module
+  pub record IsCutOf (soc : SocValue) (c : Cut) : Type 0 where
+    pub place : ℕ
+    pub core : ModuleValue
+    pub core_at : slice_get soc.modules place ≡ Some core
+    pub nth : ℕ
+    pub nth_is : slice_get (cuts_in limits most core) nth ≡ Some c
+    pub cut : IsCut core.number core.tests c
 
-pub cut_of_chip : (limits : LimitsValue) (most : ℕ) (soc : SocValue) (i : ℕ) (c : Cut) → slice_get (all_cuts limits most soc) i ≡ Some c → IsCutOf limits most soc c
-cut_of_chip limits most soc i c e =
-    let r = from_flat_map (cuts_in limits most) soc.modules i c e in
-    record { place = r.0; core = r.1; core_at = r.3; nth = r.2; nth_is = r.4; cut = cut_from limits most (r.1).number 1 (r.1).tests r.2 c r.4 }
+  pub cut_of_chip : (soc : SocValue) (i : ℕ) (c : Cut) → slice_get (all_cuts limits most soc) i ≡ Some c → IsCutOf soc c
+  cut_of_chip soc i c e =
+      let r = from_flat_map (cuts_in limits most) soc.modules i c e in
+      record { place = r.0; core = r.1; core_at = r.3; nth = r.2; nth_is = r.4; cut = cut_from (r.1).number 1 (r.1).tests r.2 c r.4 }
 
--- how its parts lie
-pub parts_of_cut : (limits : LimitsValue) (most : ℕ) → 1 ≤ most → (home : ℕ) (ts : List Test) (c : Cut) → IsCut limits most home ts c → AreParts c.test.patterns c.count c.size
-parts_of_cut limits most some home ts c cut =
-    subst (λ (d : Cut). AreParts d.test.patterns d.count d.size) (sym cut.is) (are_parts most c.test some)
+  -- how its parts lie
+  pub parts_of_cut : 1 ≤ most → (home : ℕ) (ts : List Test) (c : Cut) → IsCut home ts c → AreParts c.test.patterns c.count c.size
+  parts_of_cut some home ts c cut =
+      rw cut.is (are_parts most c.test some)
 
 -- ---- pieces
 
-pub record IsPiece (cuts : List Cut) (e : Cut × ℕ) : Type 0 where
-  pub at : ℕ
-  pub there : slice_get cuts at ≡ Some e.0
-  pub within : e.1 < e.0.count
+-- a part of a cut test, by its place
+abbrev pub nth_part : Cut → ℕ → Cut × ℕ
+nth_part c k = (c, k)
 
 piece_here : (c : Cut) (j : ℕ) (e : Cut × ℕ) → slice_get (pieces_of c) j ≡ Some e → (e ≡ (c, j)) × (j < c.count)
 piece_here c j e at =
-    let r = from_map (λ (k : ℕ). pair c k) (range_with_len 0 c.count) j e at in
+    let r = from_map (nth_part c) (range_with_len 0 c.count) j e at in
     let k = range_at 0 c.count j r.0 r.1 in
-    let same : r.0 ≡ j = omega (arith, k.1) in
-    (sym r.2 ∙ ap (λ (k : ℕ). pair c k) same, k.0)
-  where
-    pair : Cut → ℕ → Cut × ℕ
-    pair c k = (c, k)
+    let same : r.0 ≡ j = omega arith in
+    (sym r.2 ∙ ap (nth_part c) same, k.0)
 
-pub piece_from : (cuts : List Cut) (i : ℕ) (e : Cut × ℕ) → slice_get (pieces cuts) i ≡ Some e → IsPiece cuts e
-piece_from cuts i e at =
-    let r = from_flat_map pieces_of cuts i e at in
-    let h = piece_here r.1 r.2 e r.4 in
-    subst (λ (e : Cut × ℕ). IsPiece cuts e) (sym h.0) (record { at = r.0; there = r.3; within = h.1 })
+module _ (cuts : List Cut) where
+  pub record IsPiece (e : Cut × ℕ) : Type 0 where
+    pub at : ℕ
+    pub there : slice_get cuts at ≡ Some e.0
+    pub within : e.1 < e.0.count
 
-pub piece_to : (cuts : List Cut) (at : ℕ) (c : Cut) (k : ℕ) → slice_get cuts at ≡ Some c → k < c.count → (n : ℕ) × (slice_get (pieces cuts) n ≡ Some (c, k))
-piece_to cuts at c k there within =
-    let here : slice_get (range_with_len 0 c.count) k ≡ Some (0 + k) = at_range 0 c.count k within in
-    let zero' : 0 + k ≡ k = omega arith in
-    let r : slice_get (pieces_of c) k ≡ Some (pair c k) = map_at (λ (k : ℕ). pair c k) (range_with_len 0 c.count) k k (here ∙ ap Some zero') in
-    in_flat_map pieces_of cuts at k c (pair c k) there r
-  where
-    pair : Cut → ℕ → Cut × ℕ
-    pair c k = (c, k)
+  pub piece_from : (i : ℕ) (e : Cut × ℕ) → slice_get (pieces cuts) i ≡ Some e → IsPiece e
+  piece_from i e at =
+      let r = from_flat_map pieces_of cuts i e at in
+      let h = piece_here r.1 r.2 e r.4 in
+      rw h.0 (record { at = r.0; there = r.3; within = h.1 })
 
--- of two pieces the earlier one is of an earlier test, or an earlier one of the same
-pub record AreOrdered (cuts : List Cut) (e f : Cut × ℕ) : Type 0 where
-  pub first : ℕ
-  pub second : ℕ
-  pub first_at : slice_get cuts first ≡ Some e.0
-  pub second_at : slice_get cuts second ≡ Some f.0
-  pub order : (first < second) ⊎ ((first ≡ second) × (e.1 < f.1))
+  pub piece_to : (at : ℕ) (c : Cut) (k : ℕ) → slice_get cuts at ≡ Some c → k < c.count → (n : ℕ) × (slice_get (pieces cuts) n ≡ Some (c, k))
+  piece_to at c k there within =
+      let here = at_range 0 c.count k within in
+      let zero' : 0 + k ≡ k = omega arith in
+      in_flat_map pieces_of cuts at k c (nth_part c k) there (map_at (nth_part c) (range_with_len 0 c.count) k k (here ∙ ap Some zero'))
+
+  -- of two pieces the earlier one is of an earlier test, or an earlier one of the same
+  pub record AreOrdered (e f : Cut × ℕ) : Type 0 where
+    pub first : ℕ
+    pub second : ℕ
+    pub first_at : slice_get cuts first ≡ Some e.0
+    pub second_at : slice_get cuts second ≡ Some f.0
+    pub order : (first < second) ⊎ ((first ≡ second) × (e.1 < f.1))
 
 pub pieces_ordered : (cuts : List Cut) (i j : ℕ) (e f : Cut × ℕ) → i < j → slice_get (pieces cuts) i ≡ Some e → slice_get (pieces cuts) j ≡ Some f → AreOrdered cuts e f
 pieces_ordered [] i j e f less at there = absurd cc
 pieces_ordered (c ∷ cs) i j e f less at there = by (λ m n less' at' there'. pieces_ordered cs m n e f less' at' there') (from_append (pieces_of c) (pieces cs) i e at) (from_append (pieces_of c) (pieces cs) j f there)
   where
     more : (a b k l : ℕ) → (a < b) ⊎ ((a ≡ b) × (k < l)) → (suc a < suc b) ⊎ ((suc a ≡ suc b) × (k < l))
-    more a b k l (inl h) = inl (omega (arith, h))
+    more a b k l (inl h) = inl (omega arith)
     more a b k l (inr h) = inr (ap suc h.0, h.1)
 
     by : ((m n : ℕ) → m < n → slice_get (pieces cs) m ≡ Some e → slice_get (pieces cs) n ≡ Some f → AreOrdered cs e f) →
@@ -178,19 +176,19 @@ pieces_ordered (c ∷ cs) i j e f less at there = by (λ m n less' at' there'. p
     by later (inl a) (inl b) =
         let p = piece_here c i e a in
         let q = piece_here c j f b in
-        let first : e.0 ≡ c = ap (λ (x : Cut × ℕ). x.0) p.0 in
-        let second : f.0 ≡ c = ap (λ (x : Cut × ℕ). x.0) q.0 in
-        let k : e.1 ≡ i = ap (λ (x : Cut × ℕ). x.1) p.0 in
-        let l : f.1 ≡ j = ap (λ (x : Cut × ℕ). x.1) q.0 in
-        record { first = 0; second = 0; first_at = ap Some (sym first); second_at = ap Some (sym second); order = inr (refl, omega (arith, k, l, less)) }
+        let first = ap (λ (x : Cut × ℕ). x.0) p.0 in
+        let second = ap (λ (x : Cut × ℕ). x.0) q.0 in
+        let k = ap (λ (x : Cut × ℕ). x.1) p.0 in
+        let l = ap (λ (x : Cut × ℕ). x.1) q.0 in
+        record { first = 0; second = 0; first_at = ap Some (sym first); second_at = ap Some (sym second); order = inr (refl, omega arith) }
     by later (inl a) (inr b) =
         let p = piece_here c i e a in
-        let first : e.0 ≡ c = ap (λ (x : Cut × ℕ). x.0) p.0 in
+        let first = ap (λ (x : Cut × ℕ). x.0) p.0 in
         let q = piece_from cs b.0 f b.2 in
         record { first = 0; second = suc q.at; first_at = ap Some (sym first); second_at = q.there; order = inl (omega arith) }
-    by later (inr a) (inl b) = let within = slice_get_within (pieces_of c) j f b in absurd (omega (arith, within, a.1, less))
+    by later (inr a) (inl b) = let within = slice_get_within (pieces_of c) j f b in absurd (omega (arith, within))
     by later (inr a) (inr b) =
-        let r = later a.0 b.0 (omega (arith, a.1, b.1, less)) a.2 b.2 in
+        let r = later a.0 b.0 (omega arith) a.2 b.2 in
         record { first = suc r.first; second = suc r.second; first_at = r.first_at; second_at = r.second_at; order = more r.first r.second e.1 f.1 r.order }
 
 -- ---- names
@@ -202,53 +200,32 @@ in_module home n = record { «module» = home; test = n }
 abbrev pub names_of : (ModuleValue → List ℕ) → List ModuleValue → List TestId
 names_of f ms = flat_map (λ (m : ModuleValue). map (in_module m.number) (f m)) ms
 
-name_from : (f : ModuleValue → List ℕ) (ms : List ModuleValue) (i : ℕ) (id : TestId) → slice_get (names_of f ms) i ≡ Some id → (k : ℕ) × (slice_get (map (λ (m : ModuleValue). m.number) ms) k ≡ Some id.module)
-name_from f ms i id at =
-    let r = from_flat_map (λ (m : ModuleValue). map (in_module m.number) (f m)) ms i id at in
-    let b = from_map (in_module (r.1).number) (f r.1) r.2 id r.4 in
-    let same : (r.1).number ≡ id.module = ap (λ (x : TestId). x.module) b.2 in
-    (r.0, map_at (λ (m : ModuleValue). m.number) ms r.0 r.1 r.3 ∙ ap Some same)
+module _ (f : ModuleValue → List ℕ) where
+  name_from : (ms : List ModuleValue) (i : ℕ) (id : TestId) → slice_get (names_of f ms) i ≡ Some id →
+      (k : ℕ) × (slice_get (map (λ (m : ModuleValue). m.number) ms) k ≡ Some id.module)
+  name_from ms i id at =
+      let r = from_flat_map (λ (m : ModuleValue). map (in_module m.number) (f m)) ms i id at in
+      let b = from_map (in_module (r.1).number) (f r.1) r.2 id r.4 in
+      (r.0, map_at (λ (m : ModuleValue). m.number) ms r.0 r.1 r.3 ∙ ap Some (ap (λ (x : TestId). x.module) b.2))
 
-pub names_differ : (f : ModuleValue → List ℕ) (ms : List ModuleValue) → AllDiffer (map (λ (m : ModuleValue). m.number) ms) → ((i : ℕ) (m : ModuleValue) → slice_get ms i ≡ Some m → AllDiffer (f m)) → AllDiffer (names_of f ms)
-names_differ f [] differ each = λ p q id at there. absurd cc
-names_differ f (m ∷ ms) differ each =
-    differ_append (map (in_module m.number) (f m)) (names_of f ms)
-    (differ_map (in_module m.number) (f m) (λ x y e. ap (λ (i : TestId). i.test) e) (each 0 m refl))
-    (names_differ f ms (differ_tail m.number (map (λ (m : ModuleValue). m.number) ms) differ) (λ i n at. each (suc i) n at))
-    (λ p q id at there. apart p q id at there)
-  where
-    apart : (p q : ℕ) (id : TestId) → slice_get (map (in_module m.number) (f m)) p ≡ Some id → slice_get (names_of f ms) q ≡ Some id → ⊥
-    apart p q id at there =
-        let b = from_map (in_module m.number) (f m) p id at in
-        let here : m.number ≡ id.module = ap (λ (x : TestId). x.module) b.2 in
-        let k = name_from f ms q id there in
-        let same : 0 ≡ suc k.0 = differ 0 (suc k.0) id.module (ap Some here) k.1 in
-        absurd (omega (arith, same))
+  pub names_differ : (ms : List ModuleValue) → AllDiffer (map (λ (m : ModuleValue). m.number) ms) →
+      ((i : ℕ) (m : ModuleValue) → slice_get ms i ≡ Some m → AllDiffer (f m)) → AllDiffer (names_of f ms)
+  names_differ [] differ each = λ p q id at there. absurd cc
+  names_differ (m ∷ ms) differ each =
+      differ_append (map (in_module m.number) (f m)) (names_of f ms)
+      (differ_map (in_module m.number) (f m) (λ x y e. ap (λ (i : TestId). i.test) e) (each 0 m refl))
+      (names_differ ms (differ_tail m.number (map (λ (m : ModuleValue). m.number) ms) differ) (λ i n at. each (suc i) n at))
+      (λ p q id at there. apart p q id at there)
+    where
+      apart : (p q : ℕ) (id : TestId) → slice_get (map (in_module m.number) (f m)) p ≡ Some id → slice_get (names_of f ms) q ≡ Some id → ⊥
+      apart p q id at there =
+          let b = from_map (in_module m.number) (f m) p id at in
+          let here = ap (λ (x : TestId). x.module) b.2 in
+          let k = name_from ms q id there in
+          let same = differ 0 (suc k.0) id.module (ap Some here) k.1 in
+          absurd (omega arith)
 
 -- ---- the names of the tests that are cut
-
-wholes_from : (limits : LimitsValue) (most home number : ℕ) (ts : List Test) → wholes (cuts_from limits most home number ts) ≡ map (in_module home) (map (λ (t : Test). t.number) ts)
-wholes_from limits most home number [] = refl
-wholes_from limits most home number (t ∷ ts) = ap (λ (l : List TestId). in_module home t.number ∷ l) (wholes_from limits most home (number + part_count most t) ts)
-
-wholes_are : (limits : LimitsValue) (most : ℕ) (ms : List ModuleValue) → wholes (flat_map (cuts_in limits most) ms) ≡ names_of (λ (m : ModuleValue). map (λ (t : Test). t.number) m.tests) ms
-wholes_are limits most [] = refl
-wholes_are limits most (m ∷ ms) =
-    map-append (λ (c : Cut). c.whole) (cuts_in limits most m) (flat_map (cuts_in limits most) ms)
-    ∙ ap (λ (l : List TestId). l ++ wholes (flat_map (cuts_in limits most) ms)) (wholes_from limits most m.number 1 m.tests)
-    ∙ ap (λ (l : List TestId). map (in_module m.number) (map (λ (t : Test). t.number) m.tests) ++ l) (wholes_are limits most ms)
-
-pub wholes_differ : (limits : LimitsValue) (most : ℕ) (soc : SocValue) → IsSoundChip soc → AllDiffer (wholes (all_cuts limits most soc))
-wholes_differ limits most soc sound =
-    subst (λ (l : List TestId). AllDiffer l) (sym (wholes_are limits most soc.modules))
-    (names_differ (λ (m : ModuleValue). map (λ (t : Test). t.number) m.tests) soc.modules sound.modules_differ (λ i m at. (all_at IsSoundModule soc.modules i m sound.modules at).tests_differ))
-
--- two cut tests of one name stand at one place
-pub cut_unique : (limits : LimitsValue) (most : ℕ) (soc : SocValue) → IsSoundChip soc → (p q : ℕ) (c d : Cut) → slice_get (all_cuts limits most soc) p ≡ Some c → slice_get (all_cuts limits most soc) q ≡ Some d → c.whole ≡ d.whole → p ≡ q
-cut_unique limits most soc sound p q c d at there same =
-    wholes_differ limits most soc sound p q d.whole (map_at (λ (c : Cut). c.whole) (all_cuts limits most soc) p c at ∙ ap Some same) (map_at (λ (c : Cut). c.whole) (all_cuts limits most soc) q d there)
-
--- ---- the numbers of parts
 
 abbrev pub total : (most : ℕ) → List Test → ℕ
 total most ts = sum_by (part_count most) ts
@@ -257,25 +234,7 @@ abbrev pub number_of : Cut × ℕ → ℕ
 number_of e = e.0.number + e.1
 
 numbers_here : (c : Cut) → map number_of (pieces_of c) ≡ range_with_len c.number c.count
-numbers_here c = map_twice number_of (λ (k : ℕ). pair c k) (range_with_len 0 c.count) ∙ range_moved c.number 0 c.number c.count (omega arith)
-  where
-    pair : Cut → ℕ → Cut × ℕ
-    pair c k = (c, k)
-
-pub numbers_from : (limits : LimitsValue) (most home number : ℕ) (ts : List Test) → map number_of (pieces (cuts_from limits most home number ts)) ≡ range_with_len number (total most ts)
-numbers_from limits most home number [] = refl
-numbers_from limits most home number (t ∷ ts) =
-    let c : Cut = cut_of limits most home number t in
-    let rest : List Cut = cuts_from limits most home (number + part_count most t) ts in
-    map-append number_of (pieces_of (cut_of limits most home number t)) (pieces (cuts_from limits most home (number + part_count most t) ts))
-    ∙ ap (λ (l : List ℕ). l ++ map number_of (pieces (cuts_from limits most home (number + part_count most t) ts))) (numbers_here (cut_of limits most home number t))
-    ∙ ap (λ (l : List ℕ). range_with_len number (part_count most t) ++ l) (numbers_from limits most home (number + part_count most t) ts)
-    ∙ range_joined number (part_count most t) (number + part_count most t) (total most ts) (total most (t ∷ ts)) refl (sym (sum_by-cons (part_count most) t ts))
-
-pub numbers_in : (limits : LimitsValue) (most : ℕ) (m : ModuleValue) → map (λ (t : Test). t.number) (map part_test (pieces (cuts_in limits most m))) ≡ range_with_len 1 (total most m.tests)
-numbers_in limits most m = map_twice (λ (t : Test). t.number) part_test (pieces (cuts_in limits most m)) ∙ numbers_from limits most m.number 1 m.tests
-
--- ---- the names of parts
+numbers_here c = map_twice number_of (nth_part c) (range_with_len 0 c.count) ∙ range_moved c.number 0 c.number c.count (omega arith)
 
 abbrev pub name_of : Cut × ℕ → TestId
 name_of e = part_id e.0 e.1
@@ -283,46 +242,67 @@ name_of e = part_id e.0 e.1
 ids_here : (home : ℕ) (c : Cut) → c.whole.module ≡ home → map name_of (pieces_of c) ≡ map (in_module home) (map number_of (pieces_of c))
 ids_here home c same = go (range_with_len 0 c.count)
   where
-    pair : Cut → ℕ → Cut × ℕ
-    pair c k = (c, k)
-
-    go : (ks : List ℕ) → map name_of (map (λ (k : ℕ). pair c k) ks) ≡ map (in_module home) (map number_of (map (λ (k : ℕ). pair c k) ks))
+    go : (ks : List ℕ) → map name_of (map (nth_part c) ks) ≡ map (in_module home) (map number_of (map (nth_part c) ks))
     go [] = refl
-    go (k ∷ ks) = ap (λ (l : List TestId). part_id c k ∷ l) (go ks) ∙ ap (λ (h : ℕ). in_module h (c.number + k) ∷ map (in_module home) (map number_of (map (λ (k : ℕ). pair c k) ks))) same
+    go (k ∷ ks) = ap (λ l. part_id c k ∷ l) (go ks) ∙ ap (λ h. in_module h (c.number + k) ∷ map (in_module home) (map number_of (map (nth_part c) ks))) same
 
-ids_from : (limits : LimitsValue) (most home number : ℕ) (ts : List Test) → map name_of (pieces (cuts_from limits most home number ts)) ≡ map (in_module home) (map number_of (pieces (cuts_from limits most home number ts)))
-ids_from limits most home number [] = refl
-ids_from limits most home number (t ∷ ts) =
-    map-append name_of (pieces_of (cut_of limits most home number t)) (pieces (cuts_from limits most home (number + part_count most t) ts))
-    ∙ ap (λ (l : List TestId). l ++ map name_of (pieces (cuts_from limits most home (number + part_count most t) ts))) (ids_here home (cut_of limits most home number t) refl)
-    ∙ ap (λ (l : List TestId). map (in_module home) (map number_of (pieces_of (cut_of limits most home number t))) ++ l) (ids_from limits most home (number + part_count most t) ts)
-    ∙ sym (ap (map (in_module home)) (map-append number_of (pieces_of (cut_of limits most home number t)) (pieces (cuts_from limits most home (number + part_count most t) ts)))
-    ∙ map-append (in_module home) (map number_of (pieces_of (cut_of limits most home number t))) (map number_of (pieces (cuts_from limits most home (number + part_count most t) ts))))
+module _ (limits : LimitsValue) (most : ℕ) where
+  wholes_from : (home number : ℕ) (ts : List Test) → wholes (cuts_from limits most home number ts) ≡ map (in_module home) (map (λ (t : Test). t.number) ts)
+  wholes_from home number [] = refl
+  wholes_from home number (t ∷ ts) = ap (λ l. in_module home t.number ∷ l) (wholes_from home (number + part_count most t) ts)
 
-pieces-append : (cs ds : List Cut) → pieces (cs ++ ds) ≡ pieces cs ++ pieces ds
-pieces-append cs ds = flat_map-append pieces_of cs ds
+  wholes_are : (ms : List ModuleValue) → wholes (flat_map (cuts_in limits most) ms) ≡ names_of (λ (m : ModuleValue). map (λ (t : Test). t.number) m.tests) ms
+  wholes_are [] = refl
+  wholes_are (m ∷ ms) = simp map-append (cc (wholes_from m.number 1 m.tests, wholes_are ms))
 
-ids_are : (limits : LimitsValue) (most : ℕ) (ms : List ModuleValue) → map name_of (pieces (flat_map (cuts_in limits most) ms)) ≡ names_of (λ (m : ModuleValue). range_with_len 1 (total most m.tests)) ms
-ids_are limits most [] = refl
-ids_are limits most (m ∷ ms) =
-    ap (map name_of) (pieces-append (cuts_in limits most m) (flat_map (cuts_in limits most) ms))
-    ∙ map-append name_of (pieces (cuts_in limits most m)) (pieces (flat_map (cuts_in limits most) ms))
-    ∙ ap (λ (l : List TestId). l ++ map name_of (pieces (flat_map (cuts_in limits most) ms))) (ids_from limits most m.number 1 m.tests ∙ ap (map (in_module m.number)) (numbers_from limits most m.number 1 m.tests))
-    ∙ ap (λ (l : List TestId). map (in_module m.number) (range_with_len 1 (total most m.tests)) ++ l) (ids_are limits most ms)
+  pub numbers_from : (home number : ℕ) (ts : List Test) → map number_of (pieces (cuts_from limits most home number ts)) ≡ range_with_len number (total most ts)
+  numbers_from home number [] = refl
+  numbers_from home number (t ∷ ts) =
+      simp map-append (rw (numbers_here (cut_of limits most home number t), numbers_from home (number + part_count most t) ts)
+      (range_joined number (part_count most t) (number + part_count most t) (total most ts) (total most (t ∷ ts)) refl (sym (sum_by-cons (part_count most) t ts))))
 
-pub ids_differ : (limits : LimitsValue) (most : ℕ) (soc : SocValue) → IsSoundChip soc → AllDiffer (map name_of (pieces (all_cuts limits most soc)))
-ids_differ limits most soc sound =
-    subst (λ (l : List TestId). AllDiffer l) (sym (ids_are limits most soc.modules))
-    (names_differ (λ (m : ModuleValue). range_with_len 1 (total most m.tests)) soc.modules sound.modules_differ (λ i m at. range_differs 1 (total most m.tests)))
+  pub numbers_in : (m : ModuleValue) → map (λ (t : Test). t.number) (map part_test (pieces (cuts_in limits most m))) ≡ range_with_len 1 (total most m.tests)
+  numbers_in m = map_twice (λ (t : Test). t.number) part_test (pieces (cuts_in limits most m)) ∙ numbers_from m.number 1 m.tests
 
--- two pieces of one name are one
-pub piece_unique : (limits : LimitsValue) (most : ℕ) (soc : SocValue) → IsSoundChip soc → (e f : Cut × ℕ) → IsPiece (all_cuts limits most soc) e → IsPiece (all_cuts limits most soc) f → name_of e ≡ name_of f → e ≡ f
-piece_unique limits most soc sound e f is_e is_f same =
-    let cuts : List Cut = all_cuts limits most soc in
-    let a = piece_to (all_cuts limits most soc) is_e.at e.0 e.1 is_e.there is_e.within in
-    let b = piece_to (all_cuts limits most soc) is_f.at f.0 f.1 is_f.there is_f.within in
-    let at : slice_get (map name_of (pieces (all_cuts limits most soc))) a.0 ≡ Some (name_of e) = map_at name_of (pieces (all_cuts limits most soc)) a.0 (e.0, e.1) a.1 in
-    let there : slice_get (map name_of (pieces (all_cuts limits most soc))) b.0 ≡ Some (name_of f) = map_at name_of (pieces (all_cuts limits most soc)) b.0 (f.0, f.1) b.1 in
-    let place : a.0 ≡ b.0 = ids_differ limits most soc sound a.0 b.0 (name_of f) (at ∙ ap Some same) there in
-    let one : Some e ≡ Some f = sym a.1 ∙ ap (slice_get (pieces (all_cuts limits most soc))) place ∙ b.1 in
-    same_Some e f one
+  ids_from : (home number : ℕ) (ts : List Test) →
+      map name_of (pieces (cuts_from limits most home number ts)) ≡ map (in_module home) (map number_of (pieces (cuts_from limits most home number ts)))
+  ids_from home number [] = refl
+  ids_from home number (t ∷ ts) =
+      simp map-append (cc (ids_here home (cut_of limits most home number t) refl, ids_from home (number + part_count most t) ts))
+
+  ids_are : (ms : List ModuleValue) → map name_of (pieces (flat_map (cuts_in limits most) ms)) ≡ names_of (λ (m : ModuleValue). range_with_len 1 (total most m.tests)) ms
+  ids_are [] = refl
+  ids_are (m ∷ ms) =
+      simp (flat_map-append, map-append) (cc (ids_from m.number 1 m.tests ∙ ap (map (in_module m.number)) (numbers_from m.number 1 m.tests), ids_are ms))
+
+  module _ (soc : SocValue) (sound : IsSoundChip soc) where
+    abbrev cuts : List Cut
+    cuts = all_cuts limits most soc
+
+    pub wholes_differ : AllDiffer (wholes cuts)
+    wholes_differ =
+        rw (wholes_are soc.modules)
+        (names_differ (λ (m : ModuleValue). map (λ (t : Test). t.number) m.tests) soc.modules sound.modules_differ (λ i m at. (all_at IsSoundModule soc.modules i m sound.modules at).tests_differ))
+
+    -- two cut tests of one name stand at one place
+    pub cut_unique : (p q : ℕ) (c d : Cut) → slice_get cuts p ≡ Some c → slice_get cuts q ≡ Some d → c.whole ≡ d.whole → p ≡ q
+    cut_unique p q c d at there same =
+        wholes_differ p q d.whole (map_at (λ (c : Cut). c.whole) cuts p c at ∙ ap Some same) (map_at (λ (c : Cut). c.whole) cuts q d there)
+
+    -- ---- the numbers of parts
+
+    -- ---- the names of parts
+
+    pub ids_differ : AllDiffer (map name_of (pieces cuts))
+    ids_differ =
+        rw (ids_are soc.modules)
+        (names_differ (λ (m : ModuleValue). range_with_len 1 (total most m.tests)) soc.modules sound.modules_differ (λ i m at. range_differs 1 (total most m.tests)))
+
+    -- two pieces of one name are one
+    pub piece_unique : (e f : Cut × ℕ) → IsPiece cuts e → IsPiece cuts f → name_of e ≡ name_of f → e ≡ f
+    piece_unique e f is_e is_f same =
+        let a = piece_to cuts is_e.at e.0 e.1 is_e.there is_e.within in
+        let b = piece_to cuts is_f.at f.0 f.1 is_f.there is_f.within in
+        let at = map_at name_of (pieces cuts) a.0 (e.0, e.1) a.1 in
+        let there = map_at name_of (pieces cuts) b.0 (f.0, f.1) b.1 in
+        same_Some e f (sym a.1 ∙ ap (slice_get (pieces cuts)) (ids_differ a.0 b.0 (name_of f) (at ∙ ap Some same) there) ∙ b.1)

@@ -2,9 +2,7 @@ pub mod Lists
 pub mod CutTests
 pub mod ChipOfParts
 pub mod PartsAsTests
-pub mod Precedences
 pub mod Profiles
 pub mod PartLaws
 pub mod PartContents
-pub mod Counting
 pub mod Making

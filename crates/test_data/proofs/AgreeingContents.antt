@@ -1,7 +1,5 @@
 -- A content that agrees with data that suits a chip.
-use Rattle.std.proofs.Common.{◌≡◌, ◌⊎◌, inl, inr, ℕ, zero, suc, ◌-◌, ◌<◌, ◌≤◌, Bool, true, false, List, [], ◌∷◌, get_or, position, cond, Option, None, Some, refl, sym, ◌∙◌, ap, arith, eq-eqb}
-use Rattle.std.specs.Prelude.{find, slice_get}
-use Rattle.std.specs.List.{count_by, filter}
+use Rattle.std.proofs.Common.{◌≡◌, ◌⊎◌, inl, inr, ℕ, zero, suc, ◌-◌, ◌<◌, ◌≤◌, Bool, true, false, List, [], ◌∷◌, get_or, position, cond, Option, None, Some, refl, sym, ◌∙◌, ap, arith, eq-eqb, find, slice_get, count_by, filter}
 use Rattle.std.proofs.lemmas.Bool.{cases_Bool, cases_order}
 use Rattle.std.proofs.lemmas.List.Sums.{sum_by-cons}
 use Rattle.std.proofs.lemmas.List.Quantifiers.{position-Some}

@@ -1,7 +1,6 @@
 -- The first of a list that has a misfit, as a loop finds it.
-use Rattle.std.proofs.Common.{◌≡◌, inl, inr, ℕ, suc, ◌+◌, ◌<◌, Bool, true, false, ◌&&◌, List, [], ◌∷◌, ◌++◌, length, map, take, drop, get_or, position, not, Option, None, Some, is_some, refl, sym, ◌∙◌, ap, subst, add-one, drop-cons}
-use Rattle.std.specs.Prelude.{find}
-use Rattle.std.specs.List.{list_any, filter, flat_map, position_or_len}
+use Rattle.std.proofs.Common.{◌≡◌, inl, inr, ℕ, suc, ◌+◌, ◌<◌, Bool, true, false, ◌&&◌, List, [], ◌∷◌, ◌++◌, length, map, take, drop, get_or, position, not, Option, None, Some, is_some, refl, sym, ◌∙◌, ap, subst, add-one, drop-cons, find, filter, flat_map}
+use Rattle.std.specs.List.{list_any, position_or_len}
 use Rattle.std.proofs.lemmas.Bool.{cases_Bool}
 use Rattle.std.proofs.lemmas.List.{length-map, map-append, take_more}
 use Rattle.soc_model.specs.declared.Test.{Test}
@@ -11,11 +10,11 @@ use Rattle.soc_model.specs.Chips.{ModuleValue, SocValue, module_value, same_test
 use Rattle.soc_model.specs.Modes.{is_tam}
 use Rattle.soc_model.proofs.Sums.{find_first, find_later}
 use Rattle.test_data.specs.declared.Misfit.{Misfit}
-use Rattle.test_data.specs.declared.Misfit.TheVariants as misfit
 use Rattle.test_data.specs.declared.places.TestEntry.{TestEntry}
 use Rattle.test_data.specs.DataWords.{EntryValue}
 use Rattle.test_data.specs.DataPlaces.{entry_in, entries_in, kept_names}
 use Rattle.test_data.specs.Suiting.{wanted_by, name_in, tam_names_in, entry_names, has_name, misnamed_after, first_misnamed, first_missing, wrong_patterns, wrong_bits, first_of, or_else, misfit_of}
+use Rattle.test_data.specs.declared.Misfit.TheVariants as misfit
 
 -- the item at a place is the first of the rest
 pub item_at : {X : Type 0} (xs : List X) (i : ℕ) (x : X) → i < length xs → x ≡ get_or xs i x → drop i xs ≡ x ∷ drop (i + 1) xs

@@ -56,7 +56,7 @@ pub fn wanted_for(module: &Module, test: &Test) -> Wanted
     }
 }
 
-/// The same, where the test goes over the wires.
+/// What is wanted of a test that goes over the wires.
 fn wanted_if(module: &Module, test: &Test) -> Option<Wanted>
     ensures { result ≡ tam_only (module_value «module».now) (Some test.now) }
 {
@@ -66,7 +66,7 @@ fn wanted_if(module: &Module, test: &Test) -> Option<Wanted>
     None
 }
 
-/// The same of the test at a place of the module, where there is one.
+/// What is wanted of the test at a place of the module, where there is one.
 #[tactic(auto, using(crate::proofs::ChipBits::past_end))]
 fn wanted_in(module: &Module, at: usize) -> Option<Wanted>
     ensures { result

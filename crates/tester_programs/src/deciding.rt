@@ -1,23 +1,19 @@
 //! Decides how a call ends before anything is written.
 ghost use Rattle.std.specs.Prelude.{◌≡◌, ◌≤◌, ℕ, Option, map, string_bytes};
 ghost use Rattle.outside.specs.Held.{Files};
-ghost use Rattle.soc_model.specs.Chips.{soc_value};
-ghost use Rattle.plan_model.specs.Views.{limits_value, plan_value};
 ghost use Rattle.commands.specs.Commands.{command_of as asked_command};
 ghost use Rattle.commands.specs.Ends.{IsCommand};
 ghost use Rattle.commands.specs.Procedures.{asked};
-ghost use Rattle.retargeter.specs.Endings.{IsTaken};
-ghost use Rattle.tester_programs.specs.ProgramEndings.{Closes, Continues, IsRunnable, LoadsEnding};
+ghost use Rattle.commands.specs.Endings.{Closes, Continues, LoadsEnding};
+ghost use Rattle.tester_programs.specs.ProgramEndings.{IsRunnable, ending_value};
 ghost use Rattle.tester_programs.specs.Requests.{procedure_of, program_procedure, with_data_program, with_program};
 
 use crate::ending::{Language, ProgramEnding};
 use commands::{Accepted, Command, bad_words, command_of, load_all, refused_with, run_line};
 use outside::Shelf;
-use plan_model::good_without_limits;
-use retargeter::{LONG_RUN_MOST, load_suiting};
+use retargeter::{load_suiting, long_run};
 use std::alloc::Global;
 use test_data::TestData;
-use tester_vectors::cells_over;
 
 /// How a call ends with all files at hand: the run is refused where it is too long.
 fn program_or_refusal(
@@ -26,13 +22,11 @@ fn program_or_refusal(
     all: Accepted,
     test_data: TestData,
 ) -> ProgramEnding
-    requires { IsTaken all }
     ensures continues { (held : Option Files) (before after : ℕ) →
-        Continues (with_program language (soc_value all.soc) (plan_value all.plan) test_data) held before after result }
+        Continues (with_program language all.soc all.plan test_data) held before after (ending_value result) }
     ensures runnable { IsRunnable result }
 {
-    good_without_limits();
-    match cells_over(LONG_RUN_MOST, &all.plan) {
+    match long_run(&all) {
         Some(cells) => ProgramEnding::Decided(refused_with(run_line(alloc, cells))),
         None => ProgramEnding::Program {
             language,
@@ -50,18 +44,17 @@ fn decide_data<H: Shelf>(
     name: &str,
     shelf: &mut H,
 ) -> ProgramEnding
-    requires { IsTaken all }
     ensures held_stays { H.held shelf.new ≡ H.held shelf.old }
     ensures faults_never_fall { H.faults shelf.old ≤ H.faults shelf.new }
     ensures continues { Continues
-        (with_data_program language name.now (soc_value all.soc) (limits_value all.limits) (plan_value all.plan))
-        (H.held shelf.old) (H.faults shelf.old) (H.faults shelf.new) result }
+        (with_data_program language name.now all.soc all.limits all.plan)
+        (H.held shelf.old) (H.faults shelf.old) (H.faults shelf.new) (ending_value result) }
     ensures by_loads { LoadsEnding H.is_load
-        (with_data_program language name.now (soc_value all.soc) (limits_value all.limits) (plan_value all.plan))
-        shelf.old result shelf.new }
+        (with_data_program language name.now all.soc all.limits all.plan)
+        shelf.old (ending_value result) shelf.new }
     ensures runnable { IsRunnable result }
 {
-    match load_suiting(alloc, &all.soc, name, shelf) {
+    match load_suiting(alloc, &all, name, shelf) {
         Ok(test_data) => program_or_refusal(alloc, language, all, test_data),
         Err(verdict) => {
             all.free();
@@ -83,9 +76,9 @@ fn decide_program<H: Shelf>(
     ensures held_stays { H.held shelf.new ≡ H.held shelf.old }
     ensures faults_never_fall { H.faults shelf.old ≤ H.faults shelf.new }
     ensures closes { Closes (program_procedure language soc.now limits.now plan.now name.now) (H.held shelf.old)
-        (H.faults shelf.old) (H.faults shelf.new) result }
+        (H.faults shelf.old) (H.faults shelf.new) (ending_value result) }
     ensures by_loads { LoadsEnding H.is_load
-        (program_procedure language soc.now limits.now plan.now name.now) shelf.old result shelf.new }
+        (program_procedure language soc.now limits.now plan.now name.now) shelf.old (ending_value result) shelf.new }
     ensures runnable { IsRunnable result }
 {
     match load_all(alloc, soc, limits, plan, shelf) {
@@ -99,10 +92,10 @@ pub(crate) fn decide<H: Shelf>(alloc: Global, words: &[String], shelf: &mut H) -
     ensures held_stays { H.held shelf.new ≡ H.held shelf.old }
     ensures faults_never_fall { H.faults shelf.old ≤ H.faults shelf.new }
     ensures closes { Closes (asked procedure_of (asked_command (map string_bytes words.now))) (H.held shelf.old) (H.faults shelf.old)
-        (H.faults shelf.new) result }
+        (H.faults shelf.new) (ending_value result) }
     ensures by_loads { LoadsEnding H.is_load
         (asked procedure_of (asked_command (map string_bytes words.now)))
-        shelf.old result shelf.new }
+        shelf.old (ending_value result) shelf.new }
     ensures runnable { IsRunnable result }
     ensures untouched { (IsCommand (asked procedure_of (asked_command (map string_bytes words.now))) → ⊥) → shelf.new ≡ shelf.old }
 {

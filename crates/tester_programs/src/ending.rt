@@ -11,7 +11,8 @@ ghost use Rattle.cycle_forms.specs.declared.TheConstants.{CYCLE_MOST};
 ghost use Rattle.cycle_texts.specs.ProgramText.{program_text};
 ghost use Rattle.retargeter.specs.Contents.{data_content, data_marks};
 ghost use Rattle.tester_programs.specs.Languages.{tester_program};
-ghost use Rattle.tester_programs.specs.ProgramEndings.{IsRunnable, WritesEnding, PutsEnding};
+ghost use Rattle.commands.specs.Endings.{WritesEnding, PutsEnding};
+ghost use Rattle.tester_programs.specs.ProgramEndings.{IsRunnable, ending_value};
 
 use commands::{Accepted, Status, Verdict, write_verdict};
 use cycle_forms::CycleForm;
@@ -175,12 +176,31 @@ fn write_in_language<K: Sink>(
     }
 }
 
+/// Writes a plan that is accepted in a language.
+fn write_accepted<K: Sink>(
+    alloc: Global,
+    language: Language,
+    all: &Accepted,
+    test_data: &TestData,
+    out: &mut K,
+) -> Status
+    requires { all.now.plan.cycles ≤ CYCLE_MOST }
+    ensures faults_never_fall { K.faults out.old ≤ K.faults out.new }
+    ensures written { WritesUnless None (tester_program language all.now.soc all.now.plan test_data.now)
+        (K.faults out.old) (K.faults out.new) (K.written out.old) result (K.written out.new) }
+    ensures puts { MakesPuts K.is_put out.old result out.new }
+{
+    good_without_limits();
+    write_in_language(alloc, language, &all.soc, &all.plan, test_data, out)
+}
+
 /// Writes what a call ends with, and answers its status.
 pub fn write_ending<K: Sink>(alloc: Global, ending: ProgramEnding, out: &mut K) -> Status
     requires { IsRunnable ending }
     ensures faults_never_fall { K.faults out.old ≤ K.faults out.new }
-    ensures written { WritesEnding ending (K.faults out.old) (K.faults out.new) (K.written out.old) result (K.written out.new) }
-    ensures puts { PutsEnding K.is_put ending out.old result out.new }
+    ensures written { WritesEnding (ending_value ending) (K.faults out.old) (K.faults out.new) (K.written out.old) result
+        (K.written out.new) }
+    ensures puts { PutsEnding K.is_put (ending_value ending) out.old result out.new }
 {
     match ending {
         ProgramEnding::Decided(verdict) => write_verdict(verdict, out),
@@ -188,9 +208,6 @@ pub fn write_ending<K: Sink>(alloc: Global, ending: ProgramEnding, out: &mut K) 
             language,
             all,
             test_data,
-        } => {
-            good_without_limits();
-            write_in_language(alloc, language, &all.soc, &all.plan, &test_data, out)
-        }
+        } => { write_accepted(alloc, language, &all, &test_data, out) }
     }
 }

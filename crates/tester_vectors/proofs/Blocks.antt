@@ -1,9 +1,7 @@
 -- Blocks of lines one after another.
-use Rattle.std.proofs.Common.{◌≡◌, ℕ, zero, suc, ◌+◌, ◌-◌, ◌*◌, ◌≤◌, ◌<◌, Bool, List, ◌∷◌, ◌++◌, length, take, refl, ap, sym, subst, ◌∙◌, arith, Option, Some, None}
+use Rattle.std.proofs.Common.{◌≡◌, ℕ, zero, suc, ◌+◌, ◌-◌, ◌≤◌, Bool, List, ◌∷◌, ◌++◌, length, take, refl, ap, sym, subst, ◌∙◌, arith, Option}
 use Rattle.std.specs.List.{flat_map, range_with_len}
-use Rattle.std.proofs.Math.Nat.{mul-le-mul_right}
 use Rattle.std.proofs.Math.Seq.{take-append-add}
-use Rattle.std.proofs.lemmas.Bool.{lt-ltb}
 use Rattle.std.proofs.lemmas.Grind.{flat_map-append}
 use Rattle.std.proofs.lemmas.List.{take-append-le, length-append}
 use Rattle.outside.specs.Held.{Appended, AppendedFront}
@@ -14,8 +12,7 @@ use Rattle.plan_model.specs.Runs.{Content}
 use Rattle.bit_machine.specs.Marks.{Keys, Marks}
 use Rattle.bit_machine.specs.Placed.{StandFor}
 use Rattle.tester_vectors.specs.Lines.{lines_of}
-use Rattle.tester_vectors.specs.declared.TheConstants.{RUN_MOST}
-use Rattle.tester_vectors.specs.VectorText.{marked_text, wire_cycles, too_many}
+use Rattle.tester_vectors.specs.VectorText.{marked_text}
 
 -- ranges
 pub range_split : (a b n m : ℕ) → range_with_len a (n + m) ≡ range_with_len a n ++ range_with_len (a + n) m
@@ -36,36 +33,43 @@ pub front_after : (a b c : Option (List ℕ)) (x y rest whole : List ℕ) → wh
 front_after a b c x y rest whole is first front =
     let cut : take (length x + front.0) whole ≡ x ++ take front.0 y = ap (take (length x + front.0)) is ∙ take-append-add x (y ++ rest) front.0 ∙ ap (λ v. x ++ v) (take-append-le front.0 y rest front.1) in
     let long : length whole ≡ length x + (length y + length rest) = ap length is ∙ length-append x (y ++ rest) ∙ omega (arith, length-append y rest) in
-    (length x + front.0, omega (arith, long, front.1), rw cut (Appended-then a b c x (take front.0 y) first front.2))
+    (length x + front.0, omega (arith, front.1), rw cut (Appended-then a b c x (take front.0 y) first front.2))
 
 -- the lines before a block, those of the block, and the others
-pub lines_rest : (f : ℕ → List ℕ) (done count cycles : ℕ) (block : List ℕ) → done + count ≤ cycles → block ≡ flat_map f (range_with_len done count) →
+pub lines_rest : (f : ℕ → List ℕ) (done count cycles : ℕ) {block : List ℕ} → done + count ≤ cycles → block ≡ flat_map f (range_with_len done count) →
     flat_map f (range_with_len 0 cycles) ≡ flat_map f (range_with_len 0 done) ++ (block ++ flat_map f (range_with_len (done + count) (cycles - (done + count))))
-lines_rest f done count cycles block within is =
-    let all : done + (count + (cycles - (done + count))) ≡ cycles = omega (arith, within) in
+lines_rest f done count cycles within is =
+    let all : done + (count + (cycles - (done + count))) ≡ cycles = omega arith in
     let start : 0 + done ≡ done = omega arith in
     ap (λ n. flat_map f (range_with_len 0 n)) (sym all) ∙ lines_split f 0 done (count + (cycles - (done + count)))
-    ∙ ap (λ v. flat_map f (range_with_len 0 done) ++ v) (ap (λ n. flat_map f (range_with_len n (count + (cycles - (done + count))))) start ∙ lines_split f done count (cycles - (done + count)) ∙ ap (λ v. v ++ flat_map f (range_with_len (done + count) (cycles - (done + count)))) (sym is))
+    ∙ ap (λ v. flat_map f (range_with_len 0 done) ++ v) (ap (λ n. flat_map f (range_with_len n (count + (cycles - (done + count))))) start ∙ lines_split f done count (cycles - (done + count))
+    ∙ ap (λ v. v ++ flat_map f (range_with_len (done + count) (cycles - (done + count)))) (sym is))
 
 -- a front of a text is one of a longer text
 pub front_longer : (a c : Option (List ℕ)) (y rest : List ℕ) → AppendedFront a y c → AppendedFront a (y ++ rest) c
 front_longer a c y rest front =
-    let cut : take front.0 (y ++ rest) ≡ take front.0 y = take-append-le front.0 y rest front.1 in
+    let cut = take-append-le front.0 y rest front.1 in
     (front.0, omega (arith, front.1, length-append y rest), rw cut front.2)
 
-pub lines_more_split : (f : ℕ → List ℕ) (done count : ℕ) (block : List ℕ) → block ≡ flat_map f (range_with_len done count) → flat_map f (range_with_len 0 done) ++ block ≡ flat_map f (range_with_len 0 (done + count))
-lines_more_split f done count block is =
+pub lines_more_split : (f : ℕ → List ℕ) (done count : ℕ) {block : List ℕ} → block ≡ flat_map f (range_with_len done count) →
+    flat_map f (range_with_len 0 done) ++ block ≡ flat_map f (range_with_len 0 (done + count))
+lines_more_split f done count is =
     let start : done ≡ 0 + done = omega arith in
     ap (λ v. flat_map f (range_with_len 0 done) ++ v) (is ∙ ap (λ n. flat_map f (range_with_len n count)) start) ∙ sym (lines_split f 0 done count)
 
 -- ---- what is written of the same plan
 
-pub same_lines : (keys : Keys) (drive : ℕ → ℕ → ℕ → Bool) (mark : ℕ → ℕ → ℕ → ℕ) (soc soc' : SocValue) (plan plan' : PlanValue) (content : Content) (marks : Marks) (from count : ℕ) (text : List ℕ) → soc ≡ soc' → plan ≡ plan' → StandFor keys drive mark soc' content marks →
-    ((content : Content) (marks : Marks) → StandFor keys drive mark soc content marks → text ≡ lines_of soc plan content marks from count) → text ≡ lines_of soc' plan' content marks from count
-same_lines keys drive mark soc soc' plan plan' content marks from count text e f stand is =
-    is content marks (subst (λ s. StandFor keys drive mark s content marks) (sym e) stand) ∙ ap (λ s. lines_of s plan content marks from count) e ∙ ap (λ p. lines_of soc' p content marks from count) f
+module _ {keys : Keys} {drive : ℕ → ℕ → ℕ → Bool} {mark : ℕ → ℕ → ℕ → ℕ} {soc soc' : SocValue} {plan plan' : PlanValue} {content : Content}
+    {marks : Marks} (e : soc ≡ soc') (f : plan ≡ plan') (stand : StandFor keys drive mark soc' content marks) where
+  pub same_lines : (from count : ℕ) (text : List ℕ) →
+      ((content : Content) (marks : Marks) → StandFor keys drive mark soc content marks → text ≡ lines_of soc plan content marks from count) →
+      text ≡ lines_of soc' plan' content marks from count
+  same_lines from count text is =
+      is content marks (rw (← e) at stand) ∙ ap (λ s. lines_of s plan content marks from count) e ∙ ap (λ p. lines_of soc' p content marks from count) f
 
-pub same_front : (keys : Keys) (drive : ℕ → ℕ → ℕ → Bool) (mark : ℕ → ℕ → ℕ → ℕ) (soc soc' : SocValue) (plan plan' : PlanValue) (content : Content) (marks : Marks) (a c : Option (List ℕ)) → soc ≡ soc' → plan ≡ plan' → StandFor keys drive mark soc' content marks →
-    ((content : Content) (marks : Marks) → StandFor keys drive mark soc content marks → AppendedFront a (marked_text soc plan content marks) c) → AppendedFront a (marked_text soc' plan' content marks) c
-same_front keys drive mark soc soc' plan plan' content marks a c e f stand is =
-    subst (λ (p : PlanValue). AppendedFront a (marked_text soc' p content marks) c) f (subst (λ (s : SocValue). AppendedFront a (marked_text s plan content marks) c) e (is content marks (subst (λ s. StandFor keys drive mark s content marks) (sym e) stand)))
+  pub same_front : (a c : Option (List ℕ)) →
+      ((content : Content) (marks : Marks) → StandFor keys drive mark soc content marks → AppendedFront a (marked_text soc plan content marks) c) →
+      AppendedFront a (marked_text soc' plan' content marks) c
+  same_front a c is =
+      subst (λ (p : PlanValue). AppendedFront a (marked_text soc' p content marks) c) f (subst (λ (s : SocValue). AppendedFront a (marked_text s plan content marks) c) e
+      (is content marks (rw (← e) at stand)))

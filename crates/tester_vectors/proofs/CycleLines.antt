@@ -1,7 +1,6 @@
 -- A line in which each byte stands that a cycle wants is the line of the cycle, and a block of such lines is the text.
-use Rattle.std.proofs.Common.{◌≡◌, ℕ, zero, suc, ◌+◌, ◌-◌, ◌*◌, ◌≤◌, ◌<◌, ◌⊎◌, Some, List, [], ◌∷◌, ◌++◌, length, take, drop, refl, ap, sym, subst, append-nil, ◌∙◌, arith, inl, inr, append_assoc, length-drop}
-use Rattle.std.specs.Prelude.{slice_get}
-use Rattle.std.specs.List.{flat_map, range_with_len}
+use Rattle.std.proofs.Common.{◌≡◌, ℕ, zero, suc, ◌+◌, ◌-◌, ◌*◌, ◌≤◌, ◌<◌, ◌⊎◌, Some, List, [], ◌∷◌, ◌++◌, length, take, drop, refl, ap, sym, subst, append-nil, ◌∙◌, arith, inl, inr, append_assoc, length-drop, slice_get, flat_map}
+use Rattle.std.specs.List.{range_with_len}
 use Rattle.std.proofs.Math.Nat.{mul-le-mul_right}
 use Rattle.std.proofs.Math.Seq.{take-add}
 use Rattle.std.proofs.lemmas.List.{length-take-le}
@@ -39,45 +38,46 @@ at_drop (x ∷ xs) (suc a) j = let e : suc a + j ≡ suc (a + j) = omega arith i
 
 -- ---- a line
 
--- a mark as it was put
-mark_here : (soc : SocValue) (plan : PlanValue) (content : Content) (marks : Marks) → ((marks : Marks) → MarksStand soc plan marks) → (c row w : ℕ) (text : List ℕ) → w < wires_of plan → IsLineOf content marks (planned soc plan) (wires_of plan) c row text →
-    byte_at text (wires_of plan) row (wires_of plan + 1 + w) ≡ Some (mark marks (planned soc plan) c w)
-mark_here soc plan content marks stand c row w text h is = elim (compared_or_not soc plan (stand (λ id k x. 48)) c w) [
-  | inl r ↦ is.reads r.place r.pattern w r.test r.cell r.at r.read ∙ ap Some (sym ((stand marks).bits r.place r.test r.pattern r.cell c w r.at r.read))
-  | inr none ↦ is.rest w h none ∙ ap Some (sym (unread none ((stand marks).only c w)))
-]
-  where
-    unread : (IsCompared (planned soc plan) c w → ⊥) → (mark marks (planned soc plan) c w ≡ 45) ⊎ IsCompared (planned soc plan) c w → mark marks (planned soc plan) c w ≡ 45
-    unread none (inl dash) = dash
-    unread none (inr r) = absurd (none r)
+module _ (soc : SocValue) (plan : PlanValue) {content : Content} {marks : Marks} (stand : ((marks : Marks) → MarksStand soc plan marks)) {c row : ℕ}
+    {text : List ℕ} (is : IsLineOf content marks (planned soc plan) (wires_of plan) c row text) where
+  -- a mark as it was put
+  mark_here : (w : ℕ) → w < wires_of plan → byte_at text (wires_of plan) row (wires_of plan + 1 + w) ≡ Some (mark marks (planned soc plan) c w)
+  mark_here w h = elim (compared_or_not (stand (λ id k x. 48)) c w) [
+    | inl r ↦ is.reads r.place r.pattern w r.test r.cell r.at r.read ∙ ap Some (sym ((stand marks).bits r.place r.test r.pattern r.cell c w r.at r.read))
+    | inr none ↦ is.rest w h none ∙ ap Some (sym (unread none ((stand marks).only c w)))
+  ]
+    where
+      unread : (IsCompared (planned soc plan) c w → ⊥) → (mark marks (planned soc plan) c w ≡ 45) ⊎ IsCompared (planned soc plan) c w → mark marks (planned soc plan) c w ≡ 45
+      unread none (inl dash) = dash
+      unread none (inr r) = absurd (none r)
 
-line_here : (soc : SocValue) (plan : PlanValue) (content : Content) (marks : Marks) → ((marks : Marks) → MarksStand soc plan marks) → (c row : ℕ) (text : List ℕ) → row * (2 * wires_of plan + 2) + (2 * wires_of plan + 2) ≤ length text → IsLineOf content marks (planned soc plan) (wires_of plan) c row text →
-    take (2 * wires_of plan + 2) (drop (row * (2 * wires_of plan + 2)) text) ≡ cycle_line content marks (planned soc plan) (wires_of plan) c
-line_here soc plan content marks stand c row text fits is =
-    same_items (take (2 * wires_of plan + 2) (drop (row * (2 * wires_of plan + 2)) text)) (cycle_line content marks (planned soc plan) (wires_of plan) c) long
-    (λ j h. let less : j < 2 * wires_of plan + 2 = omega (arith, h, line) in
-    at_take (drop (row * (2 * wires_of plan + 2)) text) (2 * wires_of plan + 2) j less ∙ at_drop text (row * (2 * wires_of plan + 2)) j ∙ by j less (cases_lt j (wires_of plan)) (cases_eq j (wires_of plan)) (cases_lt j (wires_of plan + 1 + wires_of plan)))
-  where
-    line : length (cycle_line content marks (planned soc plan) (wires_of plan) c) ≡ wires_of plan + (wires_of plan + 2)
-    line = line_long content marks (planned soc plan) (wires_of plan) c
+  line_here : row * (2 * wires_of plan + 2) + (2 * wires_of plan + 2) ≤ length text →
+      take (2 * wires_of plan + 2) (drop (row * (2 * wires_of plan + 2)) text) ≡ cycle_line content marks (planned soc plan) (wires_of plan) c
+  line_here fits =
+      same_items (take (2 * wires_of plan + 2) (drop (row * (2 * wires_of plan + 2)) text)) (cycle_line content marks (planned soc plan) (wires_of plan) c) long (λ j h. let less : j < 2 * wires_of plan + 2 = omega (arith, line) in
+      at_take (drop (row * (2 * wires_of plan + 2)) text) (2 * wires_of plan + 2) j less ∙ at_drop text (row * (2 * wires_of plan + 2)) j
+      ∙ by j less (cases_lt j (wires_of plan)) (cases_eq j (wires_of plan)) (cases_lt j (wires_of plan + 1 + wires_of plan)))
+    where
+      line : length (cycle_line content marks (planned soc plan) (wires_of plan) c) ≡ wires_of plan + (wires_of plan + 2)
+      line = line_long (planned soc plan) (wires_of plan) content marks c
 
-    long : length (take (2 * wires_of plan + 2) (drop (row * (2 * wires_of plan + 2)) text)) ≡ length (cycle_line content marks (planned soc plan) (wires_of plan) c)
-    long =
-        let left : length (drop (row * (2 * wires_of plan + 2)) text) ≡ length text - row * (2 * wires_of plan + 2) = length-drop (row * (2 * wires_of plan + 2)) text in
-        length-take-le (2 * wires_of plan + 2) (drop (row * (2 * wires_of plan + 2)) text) (omega (arith, left, fits)) ∙ omega (arith, line)
+      long : length (take (2 * wires_of plan + 2) (drop (row * (2 * wires_of plan + 2)) text)) ≡ length (cycle_line content marks (planned soc plan) (wires_of plan) c)
+      long =
+          let left = length-drop (row * (2 * wires_of plan + 2)) text in
+          length-take-le (2 * wires_of plan + 2) (drop (row * (2 * wires_of plan + 2)) text) (omega arith) ∙ omega (arith, line)
 
-    by : (j : ℕ) → j < 2 * wires_of plan + 2 → (j < wires_of plan) ⊎ (wires_of plan ≤ j) → (j ≡ wires_of plan) ⊎ (j ≡ wires_of plan → ⊥) → (j < wires_of plan + 1 + wires_of plan) ⊎ (wires_of plan + 1 + wires_of plan ≤ j) →
-        byte_at text (wires_of plan) row j ≡ slice_get (cycle_line content marks (planned soc plan) (wires_of plan) c) j
-    by j less (inl first) b d = is.driven j first ∙ sym (line_driven content marks (planned soc plan) (wires_of plan) c j first)
-    by j less (inr past) (inl here) d = rw here (is.space ∙ sym (line_space content marks (planned soc plan) (wires_of plan) c))
-    by j less (inr past) (inr other) (inl within) =
-        let place : wires_of plan + 1 + (j - (wires_of plan + 1)) ≡ j = omega (arith, past, other) in
-        let w : j - (wires_of plan + 1) < wires_of plan = omega (arith, past, other, within) in
-        let byte = mark_here soc plan content marks stand c row (j - (wires_of plan + 1)) text w is ∙ sym (line_compared content marks (planned soc plan) (wires_of plan) c (j - (wires_of plan + 1)) w) in
-        subst (λ j. byte_at text (wires_of plan) row j ≡ slice_get (cycle_line content marks (planned soc plan) (wires_of plan) c) j) place byte
-    by j less (inr past) (inr other) (inr last) =
-        let end : j ≡ wires_of plan + 1 + wires_of plan = omega (arith, last, less) in
-        rw end (is.feed ∙ sym (line_feed content marks (planned soc plan) (wires_of plan) c))
+      by : (j : ℕ) → j < 2 * wires_of plan + 2 → (j < wires_of plan) ⊎ (wires_of plan ≤ j) → (j ≡ wires_of plan) ⊎ (j ≡ wires_of plan → ⊥) → (j < wires_of plan + 1 + wires_of plan) ⊎ (wires_of plan + 1 + wires_of plan ≤ j) →
+          byte_at text (wires_of plan) row j ≡ slice_get (cycle_line content marks (planned soc plan) (wires_of plan) c) j
+      by j less (inl first) b d = is.driven j first ∙ sym (line_driven content marks (planned soc plan) (wires_of plan) c j first)
+      by j less (inr past) (inl here) d = rw here (is.space ∙ sym (line_space content marks (planned soc plan) (wires_of plan) c))
+      by j less (inr past) (inr other) (inl within) =
+          let place : wires_of plan + 1 + (j - (wires_of plan + 1)) ≡ j = omega arith in
+          let w : j - (wires_of plan + 1) < wires_of plan = omega arith in
+          let byte = mark_here (j - (wires_of plan + 1)) w ∙ sym (line_compared content marks (planned soc plan) (wires_of plan) c (j - (wires_of plan + 1)) w) in
+          subst (λ j. byte_at text (wires_of plan) row j ≡ slice_get (cycle_line content marks (planned soc plan) (wires_of plan) c) j) place byte
+      by j less (inr past) (inr other) (inr last) =
+          let end : j ≡ wires_of plan + 1 + wires_of plan = omega arith in
+          rw end (is.feed ∙ sym (line_feed content marks (planned soc plan) (wires_of plan) c))
 
 -- ---- a block
 
@@ -92,9 +92,9 @@ pub block_is : (soc : SocValue) (plan : PlanValue) (content : Content) (marks : 
 block_is soc plan content marks stand from count zero text few fits lines = let none : 0 * (2 * wires_of plan + 2) ≡ 0 = omega arith in rw none refl
 block_is soc plan content marks stand from count (suc n) text few fits lines =
     let size : suc n * (2 * wires_of plan + 2) ≡ n * (2 * wires_of plan + 2) + (2 * wires_of plan + 2) = omega arith in
-    let more : suc n * (2 * wires_of plan + 2) ≤ count * (2 * wires_of plan + 2) = mul-le-mul_right (2 * wires_of plan + 2) few in
+    let more = mul-le-mul_right (2 * wires_of plan + 2) few in
     let before = block_is soc plan content marks stand from count n text (omega arith) fits lines in
-    let line = line_here soc plan content marks stand (from + n) n text (omega (arith, size, more, fits)) (lines n (omega arith)) in
+    let line = line_here soc plan stand (lines n (omega arith)) (omega arith) in
     ap (λ m. take m text) size ∙ take-add (n * (2 * wires_of plan + 2)) (2 * wires_of plan + 2) text
     ∙ ap (λ (t : List ℕ). t ++ take (2 * wires_of plan + 2) (drop (n * (2 * wires_of plan + 2)) text)) before
     ∙ ap (λ (t : List ℕ). flat_map (cycle_line content marks (planned soc plan) (wires_of plan)) (range_with_len from n) ++ t) line

@@ -1,7 +1,6 @@
 -- The definitions computed on small chips, against texts that were found by hand.
-use Rattle.std.proofs.Common.{◌≡◌, ℕ, List, [], ◌∷◌, true, false, refl}
-use Rattle.std.specs.Prelude.{codes, nat_eq, if◌then◌else◌}
-use Rattle.std.specs.List.{flat_map, range_with_len}
+use Rattle.std.proofs.Common.{◌≡◌, ℕ, List, [], ◌∷◌, true, false, refl, codes, nat_eq, if◌then◌else◌, flat_map}
+use Rattle.std.specs.List.{range_with_len}
 use Rattle.soc_model.specs.Chips.{SocValue, live_from}
 use Rattle.plan_model.specs.Operations.{ops_of}
 use Rattle.plan_model.specs.Plans.{PlanValue, OfModule, planned, planned_test}

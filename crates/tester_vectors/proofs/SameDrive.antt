@@ -1,16 +1,12 @@
 -- A run depends on what its wires carry alone.
-use Rattle.std.proofs.Common.{◌≡◌, ℕ, zero, suc, ◌+◌, ◌≤◌, ◌<◌, Bool, List, [], ◌∷◌, length, get_or, map, take, refl, ap, ◌∙◌, arith, inl, inr, ◌⊎◌}
-use Rattle.std.specs.Prelude.{slice_index}
-use Rattle.std.specs.List.{sum, range_with_len}
-use Rattle.std.proofs.lemmas.List.{get_or_past}
-use Rattle.std.proofs.lemmas.List.Sums.{sum_by_more, sum_by-take-le}
-use Rattle.std.proofs.lemmas.Bool.{cases_lt}
+use Rattle.std.proofs.Common.{◌≡◌, ℕ, zero, suc, ◌+◌, ◌≤◌, ◌<◌, Bool, List, [], ◌∷◌, length, map, refl, ap, ◌∙◌, arith}
+use Rattle.std.specs.List.{range_with_len}
 use Rattle.soc_model.specs.Chips.{SocValue}
 use Rattle.plan_model.specs.Plans.{PlanValue, PlannedTest, planned, widths}
 use Rattle.plan_model.specs.Right.{IsAt}
 use Rattle.plan_model.specs.Runs.{Content, State, next_bits, bits_at, chain_at, operation_at, each_chain, step, run_with}
 use Rattle.plan_model.proofs.ChainsInTheRun.{AreApart}
-use Rattle.plan_model.proofs.TestsInGoodPlans.{OnBus, on_bus}
+use Rattle.plan_model.proofs.TestsInGoodPlans.{on_bus}
 use Rattle.bit_machine.specs.Chips.{wires_of}
 use Rattle.common_lemmas.proofs.Lists.{taken_within}
 
@@ -30,16 +26,16 @@ each_chain_same {X} f g n (t ∷ tests) h =
 abbrev pub ChainsWithin : List PlannedTest → ℕ → Type 0
 ChainsWithin tests wires = (i j : ℕ) (t : PlannedTest) → IsAt tests i t → j < length t.chains → t.first_wire + j < wires
 
-pub step_same : (content : Content) (tests : List PlannedTest) (wires c : ℕ) (drive drive' : ℕ → Bool) (state : State) → ChainsWithin tests wires → ((w : ℕ) → w < wires → drive w ≡ drive' w) → step content tests drive c state ≡ step content tests drive' c state
+pub step_same : (content : Content) (tests : List PlannedTest) (wires c : ℕ) (drive drive' : ℕ → Bool) (state : State) → ChainsWithin tests wires → ((w : ℕ) → w < wires → drive w ≡ drive' w) →
+    step content tests drive c state ≡ step content tests drive' c state
 unfolding step
 step_same content tests wires c drive drive' state chains same =
-    each_chain_same
-    (λ i t j. next_bits (content.response t.id) (chain_at t j) (operation_at t c) (drive (t.first_wire + j)) (bits_at state i j))
-    (λ i t j. next_bits (content.response t.id) (chain_at t j) (operation_at t c) (drive' (t.first_wire + j)) (bits_at state i j))
-    0 tests
+    each_chain_same (λ i t j. next_bits (content.response t.id) (chain_at t j) (operation_at t c) (drive (t.first_wire + j)) (bits_at state i j))
+    (λ i t j. next_bits (content.response t.id) (chain_at t j) (operation_at t c) (drive' (t.first_wire + j)) (bits_at state i j)) 0 tests
     (λ i m j t e at within. ap (λ b. next_bits (content.response t.id) (chain_at t j) (operation_at t c) b (bits_at state m j)) (same (t.first_wire + j) (chains i j t at within)))
 
-pub run_same : (content : Content) (tests : List PlannedTest) (wires cycles c : ℕ) (drive drive' : ℕ → ℕ → Bool) → ChainsWithin tests wires → ((c w : ℕ) → c < cycles → w < wires → drive c w ≡ drive' c w) → c ≤ cycles → run_with content tests drive c ≡ run_with content tests drive' c
+pub run_same : (content : Content) (tests : List PlannedTest) (wires cycles c : ℕ) (drive drive' : ℕ → ℕ → Bool) → ChainsWithin tests wires → ((c w : ℕ) → c < cycles → w < wires → drive c w ≡ drive' c w) → c ≤ cycles →
+    run_with content tests drive c ≡ run_with content tests drive' c
 unfolding run_with
 run_same content tests wires cycles zero drive drive' chains same h = refl
 run_same content tests wires cycles (suc c) drive drive' chains same h =
@@ -50,6 +46,6 @@ run_same content tests wires cycles (suc c) drive drive' chains same h =
 
 pub chains_within : (soc : SocValue) (plan : PlanValue) → AreApart (planned soc plan) → ChainsWithin (planned soc plan) (wires_of plan)
 chains_within soc plan stand i j t at within =
-    let on : OnBus plan t = on_bus soc plan i t at in
-    let fit : length t.chains ≤ t.width = stand.fit i t at in
+    let on = on_bus soc plan i t at in
+    let fit = stand.fit i t at in
     omega (arith, on.first, on.wide, taken_within (widths plan) t.bus)

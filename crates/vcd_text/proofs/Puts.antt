@@ -1,6 +1,5 @@
 -- The part of a cycle.
-use Rattle.std.proofs.Common.{◌≡◌, ℕ, ◌+◌, ◌*◌, ◌≤◌, List, [], ◌∷◌, ◌++◌, length, take, Bool, true, refl, sym, ap, subst, ◌∙◌, arith, append-nil, None}
-use Rattle.std.specs.List.{flat_map}
+use Rattle.std.proofs.Common.{◌≡◌, ℕ, ◌+◌, ◌*◌, ◌≤◌, List, [], ◌∷◌, ◌++◌, length, take, Bool, true, refl, sym, ap, subst, ◌∙◌, arith, append-nil, None, flat_map}
 use Rattle.std.proofs.lemmas.List.{length-append, length-take-le, take_at, take-take}
 use Rattle.cycle_forms.specs.Rows.{CycleRow, IsPutAt}
 use Rattle.vcd_text.specs.Dumps.{Change, change_line, part_text, time_line, timed}

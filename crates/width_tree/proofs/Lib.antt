@@ -1,12 +1,7 @@
-pub mod OneTree
-pub mod Sound
-pub mod Complete
-pub mod Endable
-pub mod ReadTrees
 pub mod CaseFacts
 pub mod CaseBounds
-pub mod Faults
-pub mod TableFacts
 pub mod BusLists
-pub mod WidthFacts
 pub mod Turns
+pub mod ReadTrees
+pub mod Faults
+pub mod WidthFacts

@@ -73,7 +73,7 @@ fn begin_node(alloc: Global, draft: &mut Draft, key: Keyword) -> Result<Part, St
     }
 }
 
-/// The same where a node is wanted; else no text goes on so.
+/// Begins a node where one is wanted; else no text goes on so.
 fn begin_part(alloc: Global, draft: &mut Draft, key: Keyword) -> Result<Part, Stop>
     ensures { Steps (begins (draft_value draft.old) key) result draft.new }
 {

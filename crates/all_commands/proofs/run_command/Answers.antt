@@ -1,10 +1,9 @@
-use Rattle.std.proofs.Common.{◌≡◌, ◌∙◌, refl, map, sym}
-use Rattle.std.specs.Prelude.{string_bytes}
+use Rattle.std.proofs.Common.{◌≡◌, ◌∙◌, refl, map, sym, string_bytes}
 use Rattle.outside.specs.Held.{Rose}
 use Rattle.commands.specs.Commands.{command_of}
-use Rattle.commands.specs.declared.top_calls.TopCall.TheVariants as top_call
 use Rattle.all_commands.specs.Requests.{procedure_by}
 use Rattle.all_commands.proofs.Choosing.{answers_chosen, by_words_chosen, headline_chosen, quiet_chosen, reported_chosen, asks_nothing}
+use Rattle.commands.specs.declared.top_calls.TopCall.TheVariants as top_call
 use Rattle.all_commands.proofs.run_command.Goals as goal
 
 pub returns-in-Improve-clause-answers : goal.returns-in-Improve-clause-answers

@@ -1,6 +1,5 @@
 use Rattle.soc_model.specs.Chips.{soc_value}
-use Rattle.plan_model.specs.Views.{limits_value}
-use Rattle.plan_model.specs.Views.{bound_value}
+use Rattle.plan_model.specs.Views.{limits_value, bound_value}
 use Rattle.bound_certificate.proofs.Checks.{checked_accepts, checked_faults, checked_exact, checked_bounds}
 use Rattle.bound_certificate.proofs.check_bound.Goals as goal
 

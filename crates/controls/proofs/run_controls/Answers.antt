@@ -1,5 +1,4 @@
-use Rattle.std.proofs.Common.{◌≡◌, List, [], ◌∷◌, ◌++◌, ◌∙◌, ap, sym, append_assoc, rules}
-use Rattle.std.specs.List.{flat_map}
+use Rattle.std.proofs.Common.{◌≡◌, List, [], ◌∷◌, ◌++◌, ◌∙◌, ap, sym, append_assoc, rules, flat_map}
 use Rattle.soc_model.specs.Chips.{module_value, soc_value}
 use Rattle.soc_model.proofs.Entries.{modules-at_start}
 use Rattle.controls.specs.Controls.{runs_in}

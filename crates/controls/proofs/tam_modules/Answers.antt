@@ -1,5 +1,4 @@
-use Rattle.std.proofs.Common.{◌≡◌, List, [], ◌++◌, ◌∙◌, map, ap, sym, rules}
-use Rattle.std.specs.List.{filter}
+use Rattle.std.proofs.Common.{◌≡◌, List, [], ◌++◌, ◌∙◌, map, ap, sym, rules, filter}
 use Rattle.soc_model.specs.Chips.{ModuleValue}
 use Rattle.soc_model.specs.Modes.{has_tam}
 use Rattle.soc_model.proofs.Entries.{modules-at_start}

@@ -1,5 +1,4 @@
-use Rattle.std.proofs.Common.{◌≡◌, ◌++◌, map}
-use Rattle.std.specs.List.{filter}
+use Rattle.std.proofs.Common.{◌≡◌, ◌++◌, map, filter}
 use Rattle.soc_model.specs.Chips.{ModuleValue, soc_value, module_value}
 use Rattle.soc_model.specs.Modes.{has_tam}
 use Rattle.controls.specs.Controls.{tam_numbers}

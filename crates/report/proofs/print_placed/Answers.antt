@@ -1,5 +1,4 @@
-use Rattle.std.proofs.Common.{◌≡◌, ◌∙◌, ◌++◌, ◌≤◌, ◌<◌, ◌^◌, ℕ, Some, List, sum, ap, sym, subst, arith}
-use Rattle.std.specs.Prelude.{slice_get}
+use Rattle.std.proofs.Common.{◌≡◌, ◌∙◌, ◌++◌, ◌≤◌, ◌<◌, ◌^◌, ℕ, Some, List, sum, ap, sym, subst, arith, slice_get}
 use Rattle.soc_model.specs.Chips.{SocValue, soc_value}
 use Rattle.plan_model.specs.Plans.{LimitsValue, PlanValue, step_power, widths}
 use Rattle.plan_model.specs.Views.{limits_value, plan_value}

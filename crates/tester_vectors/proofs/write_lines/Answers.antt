@@ -17,5 +17,4 @@ returns-clause-marks g c = λ marks. marks_stand_in (soc_value c.args.soc.now) (
 
 pub returns-clause-front : goal.returns-clause-front
 returns-clause-front g c = λ is content marks stand.
-    same_front (g.C.Contents.keys c.args.contents.now) (g.C.Contents.drive c.args.contents.now) (g.C.Contents.mark c.args.contents.now) (soc_value c.in-Ok.run'.soc.now) (soc_value c.args.soc.now) (plan_value c.in-Ok.run'.plan.now) (plan_value c.args.plan.now) content marks (g.K.Sink.written c.args.out.now) (g.K.Sink.written c.write.new.out)
-    (ap soc_value c.in-Ok.ensures.soc) (ap plan_value c.in-Ok.ensures.plan) stand c.in-Err-write.ensures.front
+    same_front (ap soc_value c.in-Ok.ensures.soc) (ap plan_value c.in-Ok.ensures.plan) stand (g.K.Sink.written c.args.out.now) (g.K.Sink.written c.write.new.out) c.in-Err-write.ensures.front

@@ -1,5 +1,4 @@
-use Rattle.std.proofs.Common.{◌<◌, ℕ, subst, sym}
-use Rattle.std.specs.List.{All}
+use Rattle.std.proofs.Common.{◌<◌, ℕ, subst, sym, All}
 use Rattle.arch_search.proofs.Listing.{before_inside}
 use Rattle.arch_search.proofs.chains.raise_before.Goals as goal
 

@@ -1,5 +1,4 @@
-use Rattle.std.proofs.Common.{◌≡◌, ◌<◌, length}
-use Rattle.std.specs.List.{All}
+use Rattle.std.proofs.Common.{◌≡◌, ◌<◌, length, All}
 use Rattle.arch_search.specs.States.{AreBuses, AreAlike, AreTimesOn, IsTaken}
 use Rattle.arch_search.proofs.dealing.take_all.Given as goal
 

@@ -1,5 +1,4 @@
-use Rattle.std.proofs.Common.{◌≡◌, ◌<◌, ℕ, length}
-use Rattle.std.specs.List.{All}
+use Rattle.std.proofs.Common.{◌≡◌, ◌<◌, ℕ, length, All}
 use Rattle.arch_search.proofs.order.advance_test.Given as goal
 
 abbrev pub invariant-loop-next : goal.invariant-loop-next

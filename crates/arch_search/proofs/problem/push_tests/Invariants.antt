@@ -1,6 +1,4 @@
-use Rattle.std.proofs.Common.{◌≡◌, ℕ, ◌+◌, ◌<◌, length, take}
-use Rattle.std.specs.Prelude.{IfSome}
-use Rattle.std.specs.List.{All, filter}
+use Rattle.std.proofs.Common.{◌≡◌, ℕ, ◌+◌, ◌<◌, length, take, IfSome, All, filter}
 use Rattle.soc_model.specs.Chips.{is_live}
 use Rattle.arch_search.specs.Problems.{IsTimed}
 use Rattle.arch_search.proofs.problem.push_tests.Given as goal

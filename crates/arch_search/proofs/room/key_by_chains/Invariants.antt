@@ -1,5 +1,4 @@
-use Rattle.std.proofs.Common.{◌≡◌, ◌<◌, length, take}
-use Rattle.std.specs.List.{All}
+use Rattle.std.proofs.Common.{◌≡◌, ◌<◌, length, take, All}
 use Rattle.arch_search.specs.declared.sorting.Keyed.{Keyed}
 use Rattle.arch_search.proofs.room.key_by_chains.Given as goal
 

@@ -1,5 +1,4 @@
-use Rattle.std.proofs.Common.{◌≡◌, ◌<◌, ℕ, length, take}
-use Rattle.std.specs.List.{All}
+use Rattle.std.proofs.Common.{◌≡◌, ◌<◌, ℕ, length, take, All}
 use Rattle.arch_search.specs.declared.sorting.Keyed.{Keyed}
 use Rattle.arch_search.proofs.room.write_places.Given as goal
 

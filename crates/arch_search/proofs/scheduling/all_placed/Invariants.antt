@@ -1,5 +1,4 @@
-use Rattle.std.proofs.Common.{◌≡◌, true, take}
-use Rattle.std.specs.List.{All}
+use Rattle.std.proofs.Common.{◌≡◌, true, take, All}
 use Rattle.resource_table.specs.Schedules.{is_placed}
 use Rattle.arch_search.proofs.scheduling.all_placed.Given as goal
 

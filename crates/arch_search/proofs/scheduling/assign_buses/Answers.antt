@@ -1,5 +1,4 @@
-use Rattle.std.proofs.Common.{◌≡◌, ◌+◌, ◌-◌, ◌≤◌, ◌<◌, ℕ, List, length, take, sym, subst, arith}
-use Rattle.std.specs.List.{All, sum_by}
+use Rattle.std.proofs.Common.{◌≡◌, ◌+◌, ◌-◌, ◌≤◌, ◌<◌, ℕ, List, length, take, sym, subst, arith, All, sum_by}
 use Rattle.plan_model.specs.declared.TheConstants.{START_MOST}
 use Rattle.arch_search.proofs.OtherBuses.{last_more, short_more, short_all}
 use Rattle.arch_search.proofs.scheduling.assign_buses.Goals as goal

@@ -1,5 +1,4 @@
-use Rattle.std.proofs.Common.{◌≡◌, ℕ, ◌+◌, ◌≤◌, take}
-use Rattle.std.specs.List.{All, sum_by}
+use Rattle.std.proofs.Common.{◌≡◌, ℕ, ◌+◌, ◌≤◌, take, All, sum_by}
 use Rattle.plan_model.specs.declared.TheConstants.{START_MOST}
 use Rattle.arch_search.specs.Rooms.{HasRoomFor}
 use Rattle.arch_search.proofs.scheduling.assign_buses.Given as goal

@@ -1,6 +1,5 @@
-use Rattle.std.proofs.Common.{List, rules, length, sym, subst}
-use Rattle.std.specs.List.{All}
-use Rattle.arch_search.specs.declared.dealing.Taken.{Taken}
+use Rattle.std.proofs.Common.{List, rules, length, sym, subst, All}
+use Rattle.arch_search.specs.declared.dealing.DealtModule.{DealtModule}
 use Rattle.arch_search.specs.States.{IsTaken}
 use Rattle.arch_search.proofs.Searching.{none_taken}
 use Rattle.arch_search.proofs.search.no_modules.Goals as goal
@@ -9,5 +8,5 @@ pub returns : goal.returns
 returns c =
     let problem = c.args.problem.now in
     let few = c.min-count.ensures in
-    subst (λ (l : List Taken). All (IsTaken problem.wires (length problem.modules.items)) l) (sym c.in_ok-taken.ensures)
+    subst (λ (l : List DealtModule). All (IsTaken problem.wires (length problem.modules.items)) l) (sym c.in_ok-taken.ensures)
     (none_taken problem.wires (length problem.modules.items) c.min-count.result _ c.requires.1.some_wires (search rules) (search rules) (search rules))

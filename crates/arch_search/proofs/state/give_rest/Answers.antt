@@ -1,5 +1,4 @@
-use Rattle.std.proofs.Common.{◌∙◌, ◌<◌, ℕ, length, arith, sym, subst, length-set}
-use Rattle.std.specs.List.{All}
+use Rattle.std.proofs.Common.{◌∙◌, ◌<◌, ℕ, length, arith, sym, subst, length-set, All}
 use Rattle.arch_search.proofs.Wires.{total_given, some_there}
 use Rattle.arch_search.proofs.state.give_rest.Goals as goal
 

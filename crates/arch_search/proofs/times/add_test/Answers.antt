@@ -1,5 +1,4 @@
-use Rattle.std.proofs.Common.{◌∙◌, ◌<◌, ℕ, Option, length, sym, subst}
-use Rattle.std.specs.Prelude.{IfSome}
+use Rattle.std.proofs.Common.{◌∙◌, ◌<◌, ℕ, Option, length, sym, subst, IfSome}
 use Rattle.std.proofs.lemmas.List.Elements.{All-set}
 use Rattle.arch_search.specs.declared.problem.TestTimes.{TestTimes}
 use Rattle.arch_search.specs.declared.times.ModuleCycles.{ModuleCycles}

@@ -1,5 +1,4 @@
-use Rattle.std.proofs.Common.{◌≡◌, length}
-use Rattle.std.specs.List.{All}
+use Rattle.std.proofs.Common.{◌≡◌, length, All}
 use Rattle.arch_search.specs.Times.{IsColumn}
 use Rattle.arch_search.proofs.times.columns_of.Given as goal
 

@@ -1,5 +1,4 @@
-use Rattle.std.proofs.Common.{ℕ, ◌<◌, List, length, refl, sym, subst}
-use Rattle.std.specs.List.{All}
+use Rattle.std.proofs.Common.{ℕ, ◌<◌, List, length, refl, sym, subst, All}
 use Rattle.arch_search.proofs.Changed.{order_before, order_within, state_ordered}
 use Rattle.arch_search.proofs.weighing.place_earlier.Goals as goal
 

@@ -4,9 +4,8 @@ use Rattle.bit_machine.proofs.building.path_of.Goals as goal
 
 pub returns : goal.returns
 returns c = λ o start.
-    new_path c.args.inputs c.args.layout.now.lengths.items c.args.ins_from o c.args.chain.now.ins c.args.chain.now.outs c.args.outs_from c.args.chain.now.scans.items
-    (record { cells = c.len.result + c.args.chain.now.outs; loads = c.in_ok-loads.loads; answers = c.in_ok-answers.answers }) c.in_ok-loads.ensures c.in_ok-answers.ensures start
-    (omega (arith, c.len.ensures))
+    new_path c.args.layout.now.lengths.items c.args.inputs c.args.ins_from o c.args.chain.now.ins c.args.chain.now.outs c.args.chain.now.scans.items
+    (record { cells = c.len.result + c.args.chain.now.outs; loads = c.in_ok-loads.loads; answers = c.in_ok-answers.answers }) c.in_ok-loads.ensures c.in_ok-answers.ensures start (omega (arith, c.len.ensures))
 
 pub overflow_add-cells : goal.overflow_add-cells
 overflow_add-cells c =

@@ -1,5 +1,4 @@
-use Rattle.std.proofs.Common.{◌≡◌, ◌+◌, take}
-use Rattle.std.specs.List.{sum, sum_by}
+use Rattle.std.proofs.Common.{◌≡◌, ◌+◌, take, sum, sum_by}
 use Rattle.plan_model.specs.declared.ChainPlan.{ChainPlan}
 use Rattle.bit_machine.specs.Layouts.{layout_cells}
 use Rattle.bit_machine.specs.Building.{ArePaths}

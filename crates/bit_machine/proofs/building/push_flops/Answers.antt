@@ -4,5 +4,5 @@ use Rattle.bit_machine.proofs.building.push_flops.Goals as goal
 
 pub overflow_add-from : goal.overflow_add-from
 overflow_add-from c =
-    let f = start_fits c.args.layout.now.lengths.items c.args.layout.now.starts.items c.args.scan c.index.result.now c.requires.layout.starts c.requires.scan c.index.ensures in
+    let f = start_fits c.args.scan c.requires.layout.starts c.requires.scan c.index.ensures in
     omega (arith, f.1, c.requires.fits)

@@ -7,6 +7,6 @@ use Rattle.bit_machine.proofs.building.push_scans.Goals as goal
 pub loop-scan-preserved : goal.loop-scan-preserved
 loop-scan-preserved c = record {
   full = c.in_ok-push_flops.ensures.full;
-  numbers = scans_more (all_numbers c.args.runs.now.items) (all_numbers c.loop-scan.runs.items) (all_numbers c.push_flops.new.runs.items) (flop_numbers c.args.base c.args.layout.now.lengths.items) c.args.scans.now c.loop-scan.scan-index (get_or c.args.scans.now c.loop-scan.scan-index 0)
-      c.loop-scan-test.true refl c.loop-scan.invariant.numbers c.in_ok-push_flops.ensures.numbers;
+  numbers = scans_more (all_numbers c.args.runs.now.items) (flop_numbers c.args.base c.args.layout.now.lengths.items) c.args.scans.now c.loop-scan.scan-index
+      (get_or c.args.scans.now c.loop-scan.scan-index 0) c.loop-scan-test.true refl c.loop-scan.invariant.numbers c.in_ok-push_flops.ensures.numbers;
 }

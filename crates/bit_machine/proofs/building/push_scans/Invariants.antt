@@ -1,5 +1,4 @@
-use Rattle.std.proofs.Common.{◌≡◌, ◌++◌, take}
-use Rattle.std.specs.List.{All, flat_map}
+use Rattle.std.proofs.Common.{◌≡◌, ◌++◌, take, All, flat_map}
 use Rattle.bit_machine.specs.Building.{flop_numbers}
 use Rattle.bit_machine.specs.Numbers.{all_numbers, IsFull}
 use Rattle.bit_machine.proofs.building.push_scans.Given as goal

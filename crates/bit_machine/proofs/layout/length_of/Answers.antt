@@ -1,5 +1,4 @@
-use Rattle.std.proofs.Common.{◌<◌, length, get_or, ap, arith}
-use Rattle.std.specs.Prelude.{slice_index}
+use Rattle.std.proofs.Common.{◌<◌, length, get_or, ap, arith, slice_index}
 use Rattle.std.proofs.lemmas.List.Sums.{sum_by_more, sum_by_more_le}
 use Rattle.bit_machine.proofs.layout.length_of.Goals as goal
 

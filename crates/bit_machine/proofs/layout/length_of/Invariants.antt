@@ -1,6 +1,4 @@
-use Rattle.std.proofs.Common.{◌≡◌, take}
-use Rattle.std.specs.Prelude.{slice_index}
-use Rattle.std.specs.List.{sum_by}
+use Rattle.std.proofs.Common.{◌≡◌, take, slice_index, sum_by}
 use Rattle.bit_machine.proofs.layout.length_of.Given as goal
 
 abbrev pub invariant-loop-scan : goal.invariant-loop-scan

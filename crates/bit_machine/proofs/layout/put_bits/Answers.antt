@@ -8,4 +8,5 @@ overflow_add-at c = omega (arith, c.len-cells.ensures, c.len-cells.type_inv, c.r
 
 pub loop-place-preserved : goal.loop-place-preserved
 loop-place-preserved c =
-    put_more c.args.bits.now c.loop-place.bits c.put.new.self c.args.answer.now c.args.at c.loop-place.place (get_or c.args.answer.now c.loop-place.place false) c.loop-place-test.true c.requires (any_default c.args.answer.now c.loop-place.place false (get_or c.args.answer.now c.loop-place.place false) c.loop-place-test.true) c.put.ensures c.loop-place.invariant
+    put_more c.args.bits.now c.args.answer.now c.args.at c.loop-place.place c.loop-place-test.true c.requires
+    (any_default c.args.answer.now c.loop-place.place false (get_or c.args.answer.now c.loop-place.place false) c.loop-place-test.true) c.put.ensures c.loop-place.invariant

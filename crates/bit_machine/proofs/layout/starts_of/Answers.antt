@@ -1,11 +1,10 @@
-use Rattle.std.proofs.Common.{◌∙◌, ap, arith}
-use Rattle.std.specs.List.{sum}
+use Rattle.std.proofs.Common.{◌∙◌, ap, arith, sum}
 use Rattle.std.proofs.lemmas.List.{take_all}
 use Rattle.bit_machine.proofs.Layouts.{starts_more}
 use Rattle.bit_machine.proofs.layout.starts_of.Goals as goal
 
 pub loop-length-preserved : goal.loop-length-preserved
-loop-length-preserved c = starts_more c.args.lengths.now c.loop-length.starts.items c.push.new.to.items c.loop-length.length-index c.loop-length.start c.loop-length-test.true c.loop-length.invariant.0 c.loop-length.invariant.1 c.loop-length.invariant.2 c.in_ok-push.ensures.ok
+loop-length-preserved c = starts_more c.args.lengths.now c.loop-length.starts.items c.loop-length-test.true c.loop-length.invariant.0 c.loop-length.invariant.1 c.loop-length.invariant.2 c.in_ok-push.ensures.ok
 
 pub returns : goal.returns
 returns c = record {

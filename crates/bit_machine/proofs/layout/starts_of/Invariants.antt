@@ -1,6 +1,4 @@
-use Rattle.std.proofs.Common.{◌≡◌, ℕ, ◌<◌, take, length}
-use Rattle.std.specs.Prelude.{slice_index}
-use Rattle.std.specs.List.{sum}
+use Rattle.std.proofs.Common.{◌≡◌, ℕ, ◌<◌, take, length, slice_index, sum}
 use Rattle.bit_machine.proofs.layout.starts_of.Given as goal
 
 abbrev pub invariant-loop-length : goal.invariant-loop-length

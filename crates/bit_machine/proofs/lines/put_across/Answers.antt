@@ -7,4 +7,4 @@ loop-column-init c = none_across c.args.wires c.args.row c.args.from c.args.byte
 
 pub loop-column-preserved : goal.loop-column-preserved
 loop-column-preserved c =
-    across_more c.args.wires c.args.row c.args.from c.loop-column.column c.args.byte _ c.args.text.now c.loop-column.text (omega (arith, c.requires.column, c.loop-column-test.true)) (omega (arith, c.requires.row, c.loop-column.invariant.long)) (omega arith) c.loop-column.invariant
+    across_more c.args.wires c.args.row _ (omega (arith, c.requires.column, c.loop-column-test.true)) (omega (arith, c.requires.row, c.loop-column.invariant.long)) (omega arith) c.loop-column.invariant

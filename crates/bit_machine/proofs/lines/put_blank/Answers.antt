@@ -3,4 +3,4 @@ use Rattle.bit_machine.proofs.lines.put_blank.Goals as goal
 
 pub returns-clause-blank : goal.returns-clause-blank
 returns-clause-blank c =
-    (blank_line c.args.wires c.args.row c.args.text.now c.put_across.new.text c.put_across-2.new.text c.put_across-3.new.text c.put_across-4.new.text c.put_across.ensures c.put_across-2.ensures c.put_across-3.ensures c.put_across-4.ensures).1.0
+    (blank_line c.args.wires c.args.row c.put_across.ensures c.put_across-2.ensures c.put_across-3.ensures c.put_across-4.ensures).1.0

@@ -5,5 +5,5 @@ use Rattle.bit_machine.proofs.lines.put_blanks.Goals as goal
 pub loop-row-preserved : goal.loop-row-preserved
 loop-row-preserved c = record {
   long = c.put_blank.ensures.long ∙ c.loop-row.invariant.long;
-  blank = blanks_more c.args.wires c.loop-row.row c.loop-row.text c.put_blank.new.text c.loop-row.invariant.blank c.put_blank.ensures.blank c.put_blank.ensures.others;
+  blank = blanks_more c.loop-row.text c.loop-row.invariant.blank c.put_blank.ensures.blank c.put_blank.ensures.others;
 }

@@ -1,4 +1,4 @@
-use Rattle.std.proofs.Common.{◌∙◌, get_or, length, arith}
+use Rattle.std.proofs.Common.{◌∙◌, length, arith}
 use Rattle.std.proofs.lemmas.Option.{slice_get-get_or}
 use Rattle.bit_machine.proofs.Assigning.{nobody_below, assign_more, all_users}
 use Rattle.bit_machine.proofs.machine.assign_wires.Goals as goal
@@ -18,10 +18,11 @@ pub loop-place-preserved : goal.loop-place-preserved
 loop-place-preserved c = record {
   long = c.give_active.ensures.long ∙ c.loop-place.invariant.long;
   users = λ content tests are on.
-      assign_more content tests (length c.args.users.now) c.args.lanes.now are on c.args.cycle c.loop-place.place (get_or c.args.lanes.now c.loop-place.place c.index-lanes-place.result) c.loop-place.users c.give_active.new.users (slice_get-get_or c.args.lanes.now c.loop-place.place c.index-lanes-place.result (omega (arith, c.loop-place-test.true))) c.give_active.ensures.long
+      assign_more c.args.lanes.now c.args.cycle (length c.args.users.now) are on c.give_active.new.users
+      (slice_get-get_or c.args.lanes.now c.loop-place.place c.index-lanes-place.result (omega (arith, c.loop-place-test.true))) c.give_active.ensures.long
       (record { given = c.give_active.ensures.given; others = c.give_active.ensures.others; off = c.give_active.ensures.off }) (c.loop-place.invariant.users content tests are on);
 }
 
 pub returns-clause-users : goal.returns-clause-users
 returns-clause-users c = λ content tests are on.
-    all_users tests c.args.cycle c.loop-place.place c.loop-place.users (omega (arith, c.loop-place-test.false, are.long)) (c.loop-place.invariant.users content tests are on)
+    all_users (omega (arith, c.loop-place-test.false, are.long)) (c.loop-place.invariant.users content tests are on)

@@ -6,4 +6,4 @@ pub loop-wire-init : goal.loop-wire-init
 loop-wire-init c = given_none c.args.users.now c.args.place c.args.lane.now.first_wire
 
 pub loop-wire-preserved : goal.loop-wire-preserved
-loop-wire-preserved c = given_more c.args.users.now c.loop-wire.users c.args.place c.args.lane.now.first_wire c.loop-wire.wire (omega (arith, c.loop-wire.auto.wire)) (omega (arith, c.loop-wire-test.true, c.loop-wire.auto.users, c.requires)) c.loop-wire.invariant
+loop-wire-preserved c = given_more (omega (arith, c.loop-wire.auto.wire)) (omega (arith, c.loop-wire-test.true, c.loop-wire.auto.users, c.requires)) c.loop-wire.invariant

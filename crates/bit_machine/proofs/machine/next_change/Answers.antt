@@ -6,8 +6,8 @@ use Rattle.common_lemmas.proofs.Lists.{slice_at}
 
 pub loop-stepped-preserved : goal.loop-stepped-preserved
 loop-stepped-preserved c =
-    sooner_more c.args.lanes.now c.args.cycle c.loop-stepped.stepped-index c.loop-stepped.change c.sooner-change.result c.stepped-item.result (slice_at c.args.lanes.now c.loop-stepped.stepped-index c.stepped-item.result c.loop-stepped-test.true c.stepped-item.is)
-    c.sooner-change.ensures.most c.sooner-change.ensures.lane c.loop-stepped.invariant
+    sooner_more c.args.lanes.now c.args.cycle c.loop-stepped.stepped-index c.loop-stepped.change c.sooner-change.result
+    (slice_at c.args.lanes.now c.loop-stepped.stepped-index c.stepped-item.result c.loop-stepped-test.true c.stepped-item.is) c.sooner-change.ensures.most c.sooner-change.ensures.lane c.loop-stepped.invariant
 
 pub returns : goal.returns
 returns c = λ i l at.

@@ -12,4 +12,4 @@ loop-wire-preserved c = record {
 }
 
 pub returns-clause-now : goal.returns-clause-now
-returns-clause-now c = all_now c.loop-wire.lanes c.args.cycle c.args.users.now c.loop-wire.invariant.some c.loop-wire.wire (omega (arith, c.loop-wire-test.false)) c.loop-wire.invariant.now
+returns-clause-now c = all_now c.loop-wire.invariant.some c.loop-wire.wire (omega (arith, c.loop-wire-test.false)) c.loop-wire.invariant.now

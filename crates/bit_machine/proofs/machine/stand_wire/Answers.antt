@@ -6,11 +6,11 @@ use Rattle.bit_machine.proofs.machine.stand_wire.Goals as goal
 pub stand_at-requires-clause-ready : goal.stand_at-requires-clause-ready
 stand_at-requires-clause-ready c =
     let there = slice_get-get_or c.args.users.now c.args.wire None c.requires.wire ∙ ap Some c.in-Some.is in
-    user_ready c.args.lanes.now c.args.cycle c.args.users.now c.requires.some c.args.wire c.in-Some.place there
+    user_ready c.requires.some c.args.wire there
 
 pub returns-in-Some-clause-some : goal.returns-in-Some-clause-some
 returns-in-Some-clause-some c =
-    stood_some c.args.lanes.now c.stand_at.new.lanes c.in-Some.place c.args.wire c.args.cycle c.args.users.now (record { long = c.stand_at.ensures.long; others = c.stand_at.ensures.others; own = c.stand_at.ensures.own }) c.requires.some
+    stood_some c.args.lanes.now c.stand_at.new.lanes c.in-Some.place c.args.wire c.args.cycle (record { long = c.stand_at.ensures.long; others = c.stand_at.ensures.others; own = c.stand_at.ensures.own }) c.requires.some
 
 pub returns-in-Some-clause-state : goal.returns-in-Some-clause-state
 returns-in-Some-clause-state c =
@@ -18,14 +18,14 @@ returns-in-Some-clause-state c =
 
 pub returns-in-Some-clause-lanes : goal.returns-in-Some-clause-lanes
 returns-in-Some-clause-lanes c = λ content tests are.
-    stood_lanes content tests c.args.lanes.now c.stand_at.new.lanes c.in-Some.place c.args.wire c.args.cycle (record { long = c.stand_at.ensures.long; others = c.stand_at.ensures.others; own = c.stand_at.ensures.own }) are
+    stood_lanes c.stand_at.new.lanes c.in-Some.place c.args.wire c.args.cycle (record { long = c.stand_at.ensures.long; others = c.stand_at.ensures.others; own = c.stand_at.ensures.own }) are
 
 pub returns-in-Some-clause-now : goal.returns-in-Some-clause-now
 returns-in-Some-clause-now c = λ below.
     let there = slice_get-get_or c.args.users.now c.args.wire None c.requires.wire ∙ ap Some c.in-Some.is in
-    now_more c.args.lanes.now c.stand_at.new.lanes c.in-Some.place c.args.wire c.args.cycle c.args.users.now (record { long = c.stand_at.ensures.long; others = c.stand_at.ensures.others; own = c.stand_at.ensures.own }) c.requires.some there below
+    now_more c.args.lanes.now c.stand_at.new.lanes c.in-Some.place c.args.wire c.args.cycle (record { long = c.stand_at.ensures.long; others = c.stand_at.ensures.others; own = c.stand_at.ensures.own }) c.requires.some there below
 
 pub returns-in-None-clause-now : goal.returns-in-None-clause-now
 returns-in-None-clause-now c = λ below.
     let there = slice_get-get_or c.args.users.now c.args.wire None c.requires.wire ∙ ap Some c.in-None.is in
-    now_unused c.args.lanes.now c.args.cycle c.args.users.now c.requires.some c.args.wire there below
+    now_unused c.requires.some c.args.wire there below

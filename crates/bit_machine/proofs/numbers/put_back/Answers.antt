@@ -1,5 +1,4 @@
-use Rattle.std.proofs.Common.{◌≡◌, ℕ, ◌+◌, ◌-◌, ◌^◌, ◌<◌, ◌≤◌, ◌∙◌, refl, ap, sym, subst, List, length, drop, arith}
-use Rattle.std.specs.Prelude.{slice_index}
+use Rattle.std.proofs.Common.{◌≡◌, ℕ, ◌+◌, ◌-◌, ◌^◌, ◌<◌, ◌≤◌, ◌∙◌, refl, ap, sym, subst, List, length, drop, arith, slice_index}
 use Rattle.std.proofs.lemmas.List.{drop-drop}
 use Rattle.bit_machine.specs.Numbers.{all_numbers, IsWalk}
 use Rattle.bit_machine.specs.Vectors.{ArePutDown}
@@ -10,12 +9,12 @@ use Rattle.bit_machine.proofs.numbers.put_back.Goals as goal
 
 pub refilled-here-requires-clause-next : goal.refilled-here-requires-clause-next
 refilled-here-requires-clause-next g c =
-    has_next c.args.runs.now (g.B.PatternBits.value_of c.args.bits.now) c.loop-above.walk (c.args.last + 1 - c.loop-above.above) (omega (arith, c.loop-above-test.true, c.requires.within)) c.loop-above.invariant.walk
+    has_next (c.args.last + 1 - c.loop-above.above) (omega (arith, c.loop-above-test.true, c.requires.within)) c.loop-above.invariant.walk
 
 pub put_run-value-requires-clause-value : goal.put_run-value-requires-clause-value
 put_run-value-requires-clause-value g c =
     let few : c.min-some.result ≤ c.refilled-here.result.left = omega (arith, c.min-some.ensures) in
-    walk_first c.args.runs.now (g.B.PatternBits.value_of c.args.bits.now) c.refilled-here.result c.min-some.result (drop (c.args.last + 1 - c.loop-above.above) (all_numbers c.args.runs.now)) few (c.refilled-here.ensures.walk _ c.loop-above.invariant.walk)
+    walk_first c.min-some.result few (c.refilled-here.ensures.walk _ c.loop-above.invariant.walk)
 
 pub loop-above-preserved : goal.loop-above-preserved
 loop-above-preserved g c =
@@ -38,20 +37,15 @@ loop-above-preserved g c =
       few = omega (arith, most);
       walk = subst (λ n. IsWalk c.args.runs.now values (record { run = here.run; left = here.left - some; value = c.put_run-value.result }) (drop n numbers)) on
           (subst (IsWalk c.args.runs.now values (record { run = here.run; left = here.left - some; value = c.put_run-value.result })) (drop-drop some place numbers)
-          (walk_on c.args.runs.now values here some c.put_run-value.result (drop place numbers) few is c.put_run-value.ensures.after));
-      text = same_down c.args.at.wires (c.args.at.row + (above - some)) (c.args.at.row + (above - some)) (some + (c.args.count - above)) (c.args.count - (above - some)) c.args.at.column
-          (λ (i : ℕ). byte (slice_index numbers (c.args.last - (above - some + i)))) (λ (i : ℕ). byte (slice_index numbers (c.args.last - (above - some + i)))) c.args.text.now c.put_run-value.new.text
-          refl total (λ i. refl)
-          (up_block c.args.at.wires (c.args.at.row + (above - some)) some (c.args.count - above) c.args.at.column
-          (λ (i : ℕ). byte (is.number + (some - 1 - i))) (λ (i : ℕ). byte (slice_index numbers (c.args.last - (above + i)))) (λ (i : ℕ). byte (slice_index numbers (c.args.last - (above - some + i))))
-          c.args.text.now c.loop-above.text c.put_run-value.new.text c.requires.column
-          (λ i less.
+          (walk_on some few is c.put_run-value.result c.put_run-value.ensures.after));
+      text = same_down (c.args.count - (above - some)) (λ (i : ℕ). byte (slice_index numbers (c.args.last - (above - some + i)))) (c.args.at.row + (above - some)) refl total (λ i. refl)
+          (up_block (c.args.count - above) (λ (i : ℕ). byte (slice_index numbers (c.args.last - (above + i)))) (λ (i : ℕ). byte (slice_index numbers (c.args.last - (above - some + i)))) c.requires.column (λ i less.
           let there : place + (some - 1 - i) ≡ c.args.last - (above - some + i) = omega (arith, less, fewer, most, c.requires.back) in
           let within : place + (some - 1 - i) < length numbers = omega (arith, less, fewer, most, c.requires.back, c.requires.within) in
-          ap byte (sym (walk_number c.args.runs.now values here numbers place (some - 1 - i) within (omega (arith, less, few)) is)) ∙ ap (λ n. byte (slice_index numbers n)) there)
-          (λ i less. let same : c.args.last - (above + i) ≡ c.args.last - (above - some + (some + i)) = omega (arith, fewer) in ap (λ n. byte (slice_index numbers n)) same)
-          (subst (λ (r : ℕ). ArePutDown c.args.at.wires r (c.args.count - above) c.args.at.column (λ (i : ℕ). byte (slice_index numbers (c.args.last - (above + i)))) c.args.text.now c.loop-above.text) under c.loop-above.invariant.text)
-          (c.put_run-value.ensures.put is.number is.value fits));
+          ap byte (sym (walk_number place numbers (some - 1 - i) within (omega (arith, less, few)) is))
+          ∙ ap (λ n. byte (slice_index numbers n)) there) (λ i less. let same : c.args.last - (above + i) ≡ c.args.last - (above - some + (some + i)) = omega (arith, fewer) in ap (λ n. byte (slice_index numbers n)) same)
+          (subst (λ (r : ℕ). ArePutDown c.args.at.wires r (c.args.count - above) c.args.at.column
+          (λ (i : ℕ). byte (slice_index numbers (c.args.last - (above + i)))) c.args.text.now c.loop-above.text) under c.loop-above.invariant.text) (c.put_run-value.ensures.put is.number is.value fits));
     }
 
 pub returns : goal.returns
@@ -60,7 +54,5 @@ returns g c =
     let numbers : List ℕ = all_numbers c.args.runs.now in
     let above : ℕ = c.loop-above.above in
     let none : above ≡ 0 = omega (arith, c.loop-above-test.false) in
-    same_down c.args.at.wires (c.args.at.row + above) c.args.at.row (c.args.count - above) c.args.count c.args.at.column
-    (λ (i : ℕ). byte (slice_index numbers (c.args.last - (above + i)))) (λ (i : ℕ). byte (slice_index numbers (c.args.last - i))) c.args.text.now c.loop-above.text
-    (omega (arith, none)) (omega (arith, none)) (λ i. let same : c.args.last - (above + i) ≡ c.args.last - i = omega (arith, none) in ap (λ n. byte (slice_index numbers n)) same)
-    c.loop-above.invariant.text
+    same_down c.args.count (λ (i : ℕ). byte (slice_index numbers (c.args.last - i))) c.args.at.row (omega (arith, none)) (omega (arith, none))
+    (λ i. let same : c.args.last - (above + i) ≡ c.args.last - i = omega (arith, none) in ap (λ n. byte (slice_index numbers n)) same) c.loop-above.invariant.text

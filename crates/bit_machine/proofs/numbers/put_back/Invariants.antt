@@ -1,5 +1,4 @@
-use Rattle.std.proofs.Common.{ℕ, ◌+◌, ◌-◌, ◌≤◌, drop}
-use Rattle.std.specs.Prelude.{slice_index}
+use Rattle.std.proofs.Common.{ℕ, ◌+◌, ◌-◌, ◌≤◌, drop, slice_index}
 use Rattle.bit_machine.specs.Numbers.{all_numbers, IsWalk}
 use Rattle.bit_machine.specs.Vectors.{ArePutDown}
 use Rattle.bit_machine.proofs.numbers.put_back.Given as goal

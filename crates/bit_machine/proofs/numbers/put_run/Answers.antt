@@ -18,10 +18,8 @@ loop-place-preserved g c =
           c.next-value.ensures (n + place) (c.loop-place.invariant.value n e f) (omega (arith, f, c.loop-place-test.true)) ∙ ap values on;
       text = λ n e f.
           let own : n + place ≡ n + (place + 1 - 1 - 0) = omega arith in
-          up_more c.args.at.wires (c.args.at.row + below) place c.args.at.column c.byte.result (λ (i : ℕ). byte (n + (place - 1 - i))) (λ (i : ℕ). byte (n + (place + 1 - 1 - i)))
-          c.args.text.now c.loop-place.text c.put_byte.new.text c.requires.column
-          (c.byte.ensures (n + place) (c.loop-place.invariant.value n e f) ∙ ap byte own)
-          (λ i less. let same : n + (place - 1 - i) ≡ n + (place + 1 - 1 - (i + 1)) = omega arith in ap byte same)
+          up_more place (λ (i : ℕ). byte (n + (place + 1 - 1 - i))) c.requires.column (c.byte.ensures (n + place) (c.loop-place.invariant.value n e f)
+          ∙ ap byte own) (λ i less. let same : n + (place - 1 - i) ≡ n + (place + 1 - 1 - (i + 1)) = omega arith in ap byte same)
           (subst (λ (r : ℕ). ArePutDown c.args.at.wires r place c.args.at.column (λ (i : ℕ). byte (n + (place - 1 - i))) c.args.text.now c.loop-place.text) above (c.loop-place.invariant.text n e f))
           (subst (λ (r : ℕ). ArePutDown c.args.at.wires r 1 c.args.at.column (λ (i : ℕ). c.byte.result) c.loop-place.text c.put_byte.new.text) row c.put_byte.ensures);
     }

@@ -1,5 +1,4 @@
-use Rattle.std.proofs.Common.{sym, subst}
-use Rattle.std.specs.Prelude.{IfOk}
+use Rattle.std.proofs.Common.{sym, subst, IfOk}
 use Rattle.soc_model.specs.Chips.{soc_value}
 use Rattle.plan_model.specs.Plans.{PlanValue, planned, widths}
 use Rattle.plan_model.specs.Rules.{IsGoodAlone}
@@ -15,4 +14,5 @@ pub lanes-lanes-requires-clause-firsts : goal.lanes-lanes-requires-clause-firsts
 lanes-lanes-requires-clause-firsts g c = subst (λ (plan : PlanValue). AreFirstWires (widths plan) c.args.firsts.now) (sym c.in_ok-index.ensures) c.requires.firsts
 
 pub returns : goal.returns
-returns g c = subst (λ (plan : PlanValue). IfOk c.lanes-lanes.result (λ lanes. AreLanes (IsPlacedLane (g.C.Contents.keys c.args.contents.now) (soc_value c.args.soc.now) plan) (planned (soc_value c.args.soc.now) plan) lanes.items)) c.in_ok-index.ensures c.lanes-lanes.ensures
+returns g c = subst (λ (plan : PlanValue). IfOk c.lanes-lanes.result (λ lanes. AreLanes (IsPlacedLane (g.C.Contents.keys c.args.contents.now) (soc_value c.args.soc.now) plan)
+    (planned (soc_value c.args.soc.now) plan) lanes.items)) c.in_ok-index.ensures c.lanes-lanes.ensures

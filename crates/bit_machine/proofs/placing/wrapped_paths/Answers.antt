@@ -1,21 +1,18 @@
-use Rattle.std.proofs.Common.{map, arith}
+use Rattle.std.proofs.Common.{arith}
 use Rattle.std.proofs.lemmas.Result.{IfOk-weaker}
-use Rattle.soc_model.specs.Chips.{module_value}
-use Rattle.soc_model.specs.Modes.{scan_lengths}
-use Rattle.plan_model.specs.Views.{chain_value}
 use Rattle.bit_machine.proofs.PlacedLanes.{layout_paths, terminals}
 use Rattle.bit_machine.proofs.placing.wrapped_paths.Goals as goal
 
 pub paths_of-requires-clause-ins : goal.paths_of-requires-clause-ins
 paths_of-requires-clause-ins c =
-    let t = terminals (module_value c.args.module.now) c.args.wrapper.now.scan (map chain_value c.args.wrapper.now.chains.items) c.in_ok-layout.layout.chains.items c.requires.proper c.in_ok-layout.ensures.chains in
+    let t = terminals c.in_ok-layout.layout.chains.items c.requires.proper c.in_ok-layout.ensures.chains in
     omega (arith, t.0, c.requires.small)
 
 pub paths_of-requires-clause-outs : goal.paths_of-requires-clause-outs
 paths_of-requires-clause-outs c =
-    let t = terminals (module_value c.args.module.now) c.args.wrapper.now.scan (map chain_value c.args.wrapper.now.chains.items) c.in_ok-layout.layout.chains.items c.requires.proper c.in_ok-layout.ensures.chains in
+    let t = terminals c.in_ok-layout.layout.chains.items c.requires.proper c.in_ok-layout.ensures.chains in
     omega (arith, t.1, c.requires.small)
 
 pub returns : goal.returns
 returns c = IfOk-weaker c.paths_of.result _ _
-    (λ paths made. layout_paths _ (scan_lengths (module_value c.args.module.now) c.args.wrapper.now.scan) c.args.wrapper.now.chains.items c.in_ok-layout.layout paths.items c.in_ok-layout.ensures.lengths c.in_ok-layout.ensures.chains made) c.paths_of.ensures
+    (λ paths made. layout_paths c.args.wrapper.now.chains.items c.in_ok-layout.layout c.in_ok-layout.ensures.lengths c.in_ok-layout.ensures.chains made) c.paths_of.ensures

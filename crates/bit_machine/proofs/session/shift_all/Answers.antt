@@ -6,7 +6,7 @@ use Rattle.bit_machine.proofs.session.shift_all.Goals as goal
 
 pub loop-place-preserved : goal.loop-place-preserved
 loop-place-preserved c =
-    let shown = c.last.ensures ∙ ap last_bit (item_before entered c.args.drive.now c.args.chains.now c.loop-place.chains c.loop-place.place _ c.loop-place-test.true c.loop-place.invariant.0) in (
-      step_chain entered c.args.drive.now c.args.chains.now c.loop-place.chains c.loop-place.place false _ c.enter.new.self (omega (arith, c.loop-place-test.true, c.requires.driven)) c.loop-place-test.true c.loop-place.invariant.0 c.enter.ensures,
-      step_map last_bit c.args.chains.now c.args.read.now c.loop-place.read c.loop-place.place [] c.last.result c.loop-place-test.true (omega (arith, c.loop-place-test.true, c.requires.shown)) c.loop-place.invariant.1 shown,
+    let shown = c.last.ensures ∙ ap last_bit (item_before entered c.args.drive.now c.args.chains.now c.loop-place.place _ c.loop-place.invariant.0 c.loop-place-test.true) in (
+      step_chain entered c.args.drive.now c.args.chains.now c.loop-place.place _ c.loop-place.invariant.0 false c.enter.new.self (omega (arith, c.loop-place-test.true, c.requires.driven)) c.loop-place-test.true c.enter.ensures,
+      step_map last_bit c.args.chains.now c.args.read.now c.loop-place.place [] c.loop-place-test.true (omega (arith, c.loop-place-test.true, c.requires.shown)) c.loop-place.invariant.1 shown,
     )

@@ -1,5 +1,4 @@
-use Rattle.std.proofs.Common.{◌≡◌, ℕ, ◌<◌, Some, length}
-use Rattle.std.specs.Prelude.{slice_get, slice_index}
+use Rattle.std.proofs.Common.{◌≡◌, ℕ, ◌<◌, Some, length, slice_get, slice_index}
 use Rattle.bit_machine.specs.Numbers.{IsLineWord}
 use Rattle.bit_machine.specs.declared.path.Path.{Path}
 use Rattle.bit_machine.proofs.stepped.fill_words.Given as goal

@@ -9,19 +9,20 @@ put_back-requires-clause-rows g c =
 
 pub returns-then-shifts-answers-clause-read : goal.returns-then-shifts-answers-clause-read
 returns-then-shifts-answers-clause-read g c =
-    no_answer (g.C.Contents.mark c.args.contents.now c.args.key) c.args.at.wires c.args.at.row c.args.stretch.count c.args.at.column c.args.path.now c.args.stretch.behind c.args.text.now
-    (λ t is. let same = same_turn c.args.stretch.behind t c.in-Some.turn is c.in-Some.is in omega (arith, same, c.if-shifts-answers.true, c.len-answers.ensures))
+    no_answer c.args.at.wires c.args.at.row c.args.stretch.count c.args.text.now (g.C.Contents.mark c.args.contents.now c.args.key) c.args.at.column c.args.path.now c.args.stretch.behind
+    (λ t is. let same = same_turn is c.in-Some.is in omega (arith, same, c.if-shifts-answers.true, c.len-answers.ensures))
 
 pub returns-else-shifts-answers-clause-read : goal.returns-else-shifts-answers-clause-read
 returns-else-shifts-answers-clause-read g c =
-    answer_put (g.C.Contents.mark c.args.contents.now c.args.key) (g.C.Bits.PatternBits.byte_of c.response-bits.result) c.args.at.wires c.args.at.row c.args.stretch.count c.args.at.column c.min-count.result (c.len-answers.result - c.in-Some.turn.shifts) c.args.path.now c.args.stretch.behind c.in-Some.turn _ c.args.text.now c.put_back.new.text c.in-Some.is
-    (omega (arith, c.if-shifts-answers.false, c.len-answers.ensures)) (omega (arith, c.if-shifts-answers.false, c.len-answers.ensures)) refl c.min-count.ensures c.requires.column c.response-bits.ensures.bits c.put_back.ensures
+    answer_put (g.C.Bits.PatternBits.byte_of c.response-bits.result) c.args.at.row c.args.stretch.count c.args.path.now _ c.requires.column (g.C.Contents.mark c.args.contents.now c.args.key)
+    (c.len-answers.result - c.in-Some.turn.shifts) c.in-Some.is (omega (arith, c.if-shifts-answers.false, c.len-answers.ensures))
+    (omega (arith, c.if-shifts-answers.false, c.len-answers.ensures)) refl c.min-count.ensures c.response-bits.ensures.bits c.put_back.ensures
 
 pub returns-else-shifts-answers-clause-others : goal.returns-else-shifts-answers-clause-others
 returns-else-shifts-answers-clause-others g c =
-    fewer_rows c.args.at.wires c.args.at.row c.min-count.result c.args.stretch.count c.args.at.column c.args.text.now c.put_back.new.text (omega (arith, c.min-count.ensures)) c.put_back.ensures.others
+    fewer_rows c.args.at.wires c.args.at.row c.args.stretch.count c.args.text.now c.min-count.result c.args.at.column c.put_back.new.text (omega (arith, c.min-count.ensures)) c.put_back.ensures.others
 
 pub returns-in-None-clause-read : goal.returns-in-None-clause-read
 returns-in-None-clause-read g c =
-    no_answer (g.C.Contents.mark c.args.contents.now c.args.key) c.args.at.wires c.args.at.row c.args.stretch.count c.args.at.column c.args.path.now c.args.stretch.behind c.args.text.now
+    no_answer c.args.at.wires c.args.at.row c.args.stretch.count c.args.text.now (g.C.Contents.mark c.args.contents.now c.args.key) c.args.at.column c.args.path.now c.args.stretch.behind
     (λ t is. let wrong : None ≡ Some t = sym c.in-None.is ∙ is in absurd cc)

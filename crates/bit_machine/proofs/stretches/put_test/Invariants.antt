@@ -11,7 +11,8 @@ invariant-loop-cycle g l = record {
   from : l.from ≤ l.cycle;
   begun : l.lane.start ≤ l.cycle;
   long : length l.text ≡ length l.initial.text;
-  played : (content : Content) (marks : Marks) (tests : List PlannedTest) (i : ℕ) (t : PlannedTest) → HasLane (IsFilled (g.C.Contents.drive l.contents) (g.C.Contents.mark l.contents) content marks) tests l.wires i t l.lane → ArePlayed content marks t l.wires l.from l.cycle 0 l.initial.text l.text;
+  played : (content : Content) (marks : Marks) (tests : List PlannedTest) (i : ℕ) (t : PlannedTest) → HasLane (IsFilled (g.C.Contents.drive l.contents) (g.C.Contents.mark l.contents) content marks) tests l.wires i t l.lane →
+      ArePlayed content marks t l.wires l.from l.cycle 0 l.initial.text l.text;
 }
 
 abbrev pub decreases-loop-cycle : goal.decreases-loop-cycle

@@ -10,5 +10,6 @@ use Rattle.bit_machine.proofs.stretches.put_tests.Given as goal
 abbrev pub invariant-loop-place : goal.invariant-loop-place
 invariant-loop-place g l = record {
   long : length l.text ≡ length l.initial.text;
-  lines : (content : Content) (marks : Marks) (tests : List PlannedTest) → AreLanes (IsFilled (g.C.Contents.drive l.contents) (g.C.Contents.mark l.contents) content marks) tests l.lanes → AreOnWires tests l.wires → (r : ℕ) → r < l.count → IsLineBelow content marks tests l.place l.wires (l.from + r) r l.text;
+  lines : (content : Content) (marks : Marks) (tests : List PlannedTest) → AreLanes (IsFilled (g.C.Contents.drive l.contents) (g.C.Contents.mark l.contents) content marks) tests l.lanes → AreOnWires tests l.wires → (r : ℕ) →
+      r < l.count → IsLineBelow content marks tests l.place l.wires (l.from + r) r l.text;
 }

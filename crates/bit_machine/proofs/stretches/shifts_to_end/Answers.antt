@@ -3,4 +3,4 @@ use Rattle.bit_machine.proofs.ShiftStretches.{shifts_after}
 use Rattle.bit_machine.proofs.stretches.shifts_to_end.Goals as goal
 
 pub returns-then-turn-phases-clause-shifts : goal.returns-then-turn-phases-clause-shifts
-returns-then-turn-phases-clause-shifts c = λ n m. shifts_after c.args.phases.now n (c.args.phases.now.so - c.in-Some.turn.shifts) c.args.behind c.in-Some.turn c.in-Some.is refl m
+returns-then-turn-phases-clause-shifts c = λ n m. shifts_after (c.args.phases.now.so - c.in-Some.turn.shifts) c.in-Some.is refl m

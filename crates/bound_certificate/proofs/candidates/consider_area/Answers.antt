@@ -8,8 +8,12 @@ use Rattle.bound_certificate.proofs.candidates.consider_area.Goals as goal
 
 pub returns-clause-seen : goal.returns-clause-seen
 unfolding certificate_value
-returns-clause-seen c = rw c.better_known.ensures (seen_considered (soc_value c.args.soc.now) (limits_value c.args.limits.now) c.args.best c.from.result why.Area c.requires.value (c.from.ensures ∙ c.area_bound.ensures.quotient))
+returns-clause-seen c =
+    let value = rw (← c.problem.view_is) at c.requires.value in
+    rw (← c.problem.view_is, c.better_known.ensures) (seen_considered (soc_value c.problem.inside.soc.now) (limits_value c.problem.inside.limits.now) c.args.best c.from.result why.Area value (c.from.ensures ∙ c.area_bound.ensures.quotient))
 
 pub returns-clause-value : goal.returns-clause-value
 unfolding certificate_value
-returns-clause-value c = rw c.better_known.ensures (value_considered (soc_value c.args.soc.now) (limits_value c.args.limits.now) c.args.best c.from.result why.Area c.requires.value (c.from.ensures ∙ c.area_bound.ensures.quotient) (rw c.from.ensures (c.area_bound.ensures.bound (limits_value c.args.limits.now) refl)) tt)
+returns-clause-value c =
+    let value = rw (← c.problem.view_is) at c.requires.value in
+    rw (← c.problem.view_is, c.better_known.ensures) (value_considered (soc_value c.problem.inside.soc.now) (limits_value c.problem.inside.limits.now) c.args.best c.from.result why.Area value (c.from.ensures ∙ c.area_bound.ensures.quotient) (rw c.from.ensures (c.area_bound.ensures.bound (limits_value c.problem.inside.limits.now) refl)) tt)

@@ -1,6 +1,4 @@
-use Rattle.std.proofs.Common.{◌<◌, length, take}
-use Rattle.std.specs.Prelude.{IfSome}
-use Rattle.std.specs.List.{Contains}
+use Rattle.std.proofs.Common.{◌<◌, length, take, IfSome, Contains}
 use Rattle.bound_certificate.specs.Chains.{IsBest}
 use Rattle.bound_certificate.proofs.chains.best_of.Given as goal
 

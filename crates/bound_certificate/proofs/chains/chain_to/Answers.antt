@@ -1,6 +1,4 @@
-use Rattle.std.proofs.Common.{◌≡◌, ◌∙◌, ◌<◌, ℕ, Option, Some, List, [], ◌∷◌, ◌++◌, length, get_or, reverse, sym, ap, subst, arith, rules}
-use Rattle.std.specs.Prelude.{slice_get}
-use Rattle.std.specs.List.{Contains}
+use Rattle.std.proofs.Common.{◌≡◌, ◌∙◌, ◌<◌, ℕ, Option, Some, List, [], ◌∷◌, ◌++◌, length, get_or, reverse, sym, ap, subst, arith, rules, slice_get, Contains}
 use Rattle.std.proofs.lemmas.List.{length-map}
 use Rattle.std.proofs.lemmas.List.Elements.{Contains-get_or}
 use Rattle.soc_model.specs.declared.TestId.{TestId}

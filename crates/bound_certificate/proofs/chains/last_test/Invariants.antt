@@ -1,5 +1,4 @@
-use Rattle.std.proofs.Common.{◌<◌, length}
-use Rattle.std.specs.Prelude.{IfSome}
+use Rattle.std.proofs.Common.{◌<◌, length, IfSome}
 use Rattle.bound_certificate.specs.Nodes.{node_values}
 use Rattle.bound_certificate.specs.Chains.{IsBest, HasEarlierBelow}
 use Rattle.bound_certificate.proofs.chains.last_test.Given as goal

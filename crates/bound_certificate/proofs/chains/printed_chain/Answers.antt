@@ -1,9 +1,8 @@
-use Rattle.std.proofs.Common.{◌≡◌, ◌∙◌, ℕ, List, Result, Ok, Err, length, sym, ap, subst}
-use Rattle.std.specs.Prelude.{IfOk}
+use Rattle.std.proofs.Common.{◌≡◌, ◌∙◌, ℕ, List, Result, Ok, Err, length, sym, ap, subst, IfOk}
 use Rattle.std.proofs.lemmas.List.{length-map}
-use Rattle.soc_model.specs.Chips.{SocValue, soc_value}
+use Rattle.soc_model.specs.Chips.{SocValue}
 use Rattle.plan_model.specs.Plans.{LimitsValue}
-use Rattle.plan_model.specs.Views.{limits_value}
+use Rattle.plan_model.specs.SoundLimits.{IsAcyclic}
 use Rattle.bound_certificate.specs.declared.nodes.PrecedenceNode.{PrecedenceNode}
 use Rattle.bound_certificate.specs.Nodes.{node_value, node_values, AreNodes}
 use Rattle.bound_certificate.specs.Sums.{AreSums}
@@ -25,23 +24,28 @@ moved P a b s t same equal p = subst (λ (l : List PrecedenceNode). P l t) same 
 sums_right : (soc : SocValue) (limits : LimitsValue) (seen nodes : List PrecedenceNode) (sums : List ℕ) → seen ≡ nodes → AreNodes soc limits (node_values nodes) → ((soc : SocValue) (limits : LimitsValue) → AreNodes soc limits (node_values seen) → AreSums soc limits (node_values seen) sums) → AreSums soc limits (node_values nodes) sums
 sums_right soc limits seen nodes sums same are right = subst (λ (l : List PrecedenceNode). AreSums soc limits (node_values l) sums) same (right soc limits (subst (λ (l : List PrecedenceNode). AreNodes soc limits (node_values l)) (sym same) are))
 
+pub greatest_sums-requires : goal.greatest_sums-requires
+greatest_sums-requires c =
+    let acyclic : IsAcyclic c.args.problem.now.soc c.args.problem.now.limits = rw (← c.problem.view_is) c.problem.invariant.bounds.acyclic in
+    record { soc = c.args.problem.now.soc; limits = c.args.problem.now.limits; acyclic = acyclic; are = rw c.deref.ensures.value c.in_ok-nodes.ensures }
+
 pub best_chain-requires-clause-long : goal.best_chain-requires-clause-long
 best_chain-requires-clause-long c =
-    let right = sums_right (soc_value c.args.soc.now) (limits_value c.args.limits.now) c.deref.result.now c.in_ok-nodes.nodes.items c.in_ok-sums.sums.items c.deref.ensures.value c.in_ok-nodes.ensures c.in_ok-sums.ensures in
+    let right = sums_right c.args.problem.now.soc c.args.problem.now.limits c.deref.result.now c.in_ok-nodes.nodes.items c.in_ok-sums.sums.items c.deref.ensures.value c.in_ok-nodes.ensures c.in_ok-sums.ensures in
     ap length c.deref-3.ensures.value ∙ right.long ∙ length-map c.in_ok-nodes.nodes.items node_value ∙ sym (ap length c.deref-2.ensures.value)
 
 pub best_chain-requires-clause-fall : goal.best_chain-requires-clause-fall
 best_chain-requires-clause-fall c =
-    let soc = soc_value c.args.soc.now in
-    let limits = limits_value c.args.limits.now in
+    let soc = c.args.problem.now.soc in
+    let limits = c.args.problem.now.limits in
     let right = sums_right soc limits c.deref.result.now c.in_ok-nodes.nodes.items c.in_ok-sums.sums.items c.deref.ensures.value c.in_ok-nodes.ensures c.in_ok-sums.ensures in
     moved (λ nodes sums. SumsFall (node_values nodes) sums) c.in_ok-nodes.nodes.items c.deref-2.result.now c.in_ok-sums.sums.items c.deref-3.result.now (sym c.deref-2.ensures.value) (sym c.deref-3.ensures.value)
     (fall soc limits (node_values c.in_ok-nodes.nodes.items) c.in_ok-sums.sums.items c.in_ok-nodes.ensures right)
 
 pub returns-clause-printed : goal.returns-clause-printed
 returns-clause-printed c =
-    let soc = soc_value c.args.soc.now in
-    let limits = limits_value c.args.limits.now in
+    let soc = c.args.problem.now.soc in
+    let limits = c.args.problem.now.limits in
     let right = sums_right soc limits c.deref.result.now c.in_ok-nodes.nodes.items c.in_ok-sums.sums.items c.deref.ensures.value c.in_ok-nodes.ensures c.in_ok-sums.ensures in
     let are = subst (λ (l : List PrecedenceNode). AreNodes soc limits (node_values l)) (sym c.deref-2.ensures.value) c.in_ok-nodes.ensures in
     let seen = moved (λ nodes sums. AreSums soc limits (node_values nodes) sums) c.in_ok-nodes.nodes.items c.deref-2.result.now c.in_ok-sums.sums.items c.deref-3.result.now (sym c.deref-2.ensures.value) (sym c.deref-3.ensures.value) right in
@@ -49,8 +53,8 @@ returns-clause-printed c =
 
 pub returns-clause-keeps : goal.returns-clause-keeps
 returns-clause-keeps c =
-    let soc = soc_value c.args.soc.now in
-    let limits = limits_value c.args.limits.now in
+    let soc = c.args.problem.now.soc in
+    let limits = c.args.problem.now.limits in
     let right = sums_right soc limits c.deref.result.now c.in_ok-nodes.nodes.items c.in_ok-sums.sums.items c.deref.ensures.value c.in_ok-nodes.ensures c.in_ok-sums.ensures in
     let are = subst (λ (l : List PrecedenceNode). AreNodes soc limits (node_values l)) (sym c.deref-2.ensures.value) c.in_ok-nodes.ensures in
     let seen = moved (λ nodes sums. AreSums soc limits (node_values nodes) sums) c.in_ok-nodes.nodes.items c.deref-2.result.now c.in_ok-sums.sums.items c.deref-3.result.now (sym c.deref-2.ensures.value) (sym c.deref-3.ensures.value) right in
@@ -58,8 +62,8 @@ returns-clause-keeps c =
 
 pub returns-clause-greatest : goal.returns-clause-greatest
 returns-clause-greatest c =
-    let soc = soc_value c.args.soc.now in
-    let limits = limits_value c.args.limits.now in
+    let soc = c.args.problem.now.soc in
+    let limits = c.args.problem.now.limits in
     let right = sums_right soc limits c.deref.result.now c.in_ok-nodes.nodes.items c.in_ok-sums.sums.items c.deref.ensures.value c.in_ok-nodes.ensures c.in_ok-sums.ensures in
     let are = subst (λ (l : List PrecedenceNode). AreNodes soc limits (node_values l)) (sym c.deref-2.ensures.value) c.in_ok-nodes.ensures in
     let seen = moved (λ nodes sums. AreSums soc limits (node_values nodes) sums) c.in_ok-nodes.nodes.items c.deref-2.result.now c.in_ok-sums.sums.items c.deref-3.result.now (sym c.deref-2.ensures.value) (sym c.deref-3.ensures.value) right in

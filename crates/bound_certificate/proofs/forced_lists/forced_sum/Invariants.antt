@@ -1,5 +1,4 @@
-use Rattle.std.proofs.Common.{◌≡◌, ◌≤◌, ◌*◌, ◌^◌, take}
-use Rattle.std.specs.List.{sum_by}
+use Rattle.std.proofs.Common.{◌≡◌, ◌≤◌, ◌*◌, ◌^◌, take, sum_by}
 use Rattle.soc_model.specs.Chips.{soc_value}
 use Rattle.plan_model.specs.Bounds.{lower_tam_time}
 use Rattle.plan_model.specs.Certificates.{on}

@@ -1,6 +1,5 @@
-use Rattle.std.proofs.Common.{◌≡◌, length, arith, ◌+◌, ◌++◌, ◌∷◌, [], ◌∙◌, nat_eq, map, sym, ap, refl, append_assoc}
-use Rattle.std.specs.Prelude.{slice_index}
-use Rattle.std.specs.List.{filter, range_with_len}
+use Rattle.std.proofs.Common.{◌≡◌, length, arith, ◌+◌, ◌++◌, ◌∷◌, [], ◌∙◌, nat_eq, map, sym, ap, refl, append_assoc, slice_index, filter}
+use Rattle.std.specs.List.{range_with_len}
 use Rattle.std.proofs.lemmas.Bool.{ne_eqb, eq-eqb}
 use Rattle.soc_model.specs.Chips.{module_value, soc_value}
 use Rattle.bound_certificate.specs.Best.{number_at}

@@ -1,6 +1,5 @@
-use Rattle.std.proofs.Common.{◌≡◌, ◌++◌, map, nat_eq}
-use Rattle.std.specs.Prelude.{slice_index}
-use Rattle.std.specs.List.{filter, range_with_len}
+use Rattle.std.proofs.Common.{◌≡◌, ◌++◌, map, nat_eq, slice_index, filter}
+use Rattle.std.specs.List.{range_with_len}
 use Rattle.soc_model.specs.Chips.{soc_value}
 use Rattle.bound_certificate.specs.Best.{number_at}
 use Rattle.bound_certificate.proofs.forced_part.push_with_need.Given as goal

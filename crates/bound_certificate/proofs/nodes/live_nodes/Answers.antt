@@ -1,7 +1,6 @@
-use Rattle.std.proofs.Common.{◌≡◌, List, [], ◌∷◌, ◌++◌, ◌∙◌, ap, sym, subst, map, append_assoc, rules}
+use Rattle.std.proofs.Common.{◌≡◌, List, [], ◌∷◌, ◌++◌, ◌∙◌, ap, sym, subst, map, append_assoc, rules, All, flat_map}
 use Rattle.std.proofs.lemmas.List.Elements.{All-head, All-tail}
 use Rattle.soc_model.specs.declared.Module.{Module}
-use Rattle.std.specs.List.{All, flat_map}
 use Rattle.soc_model.specs.Chips.{ModuleValue, module_value, soc_value}
 use Rattle.soc_model.proofs.Entries.{modules-at_start}
 use Rattle.bound_rules.specs.Sizes.{IsMeasurable}

@@ -1,5 +1,4 @@
-use Rattle.std.proofs.Common.{◌≡◌, ◌++◌, map}
-use Rattle.std.specs.List.{All, flat_map}
+use Rattle.std.proofs.Common.{◌≡◌, ◌++◌, map, All, flat_map}
 use Rattle.soc_model.specs.Chips.{soc_value, module_value}
 use Rattle.bound_rules.specs.Sizes.{IsMeasurable}
 use Rattle.bound_certificate.specs.Nodes.{node_values, nodes_in, live_nodes}

@@ -12,10 +12,10 @@ use Rattle.bound_certificate.proofs.nodes.nodes_of.Goals as goal
 
 pub all_before-requires : goal.all_before-requires
 all_before-requires c =
-    let soc = soc_value c.args.soc.now in
+    let soc = soc_value c.problem.inside.soc.now in
     let counted : c.len.result ≡ length c.in_ok-nodes.nodes.items = search rules in
-    let many : length c.in_ok-nodes.nodes.items ≡ length (live_ids soc) = node_count soc c.args.limits.now.wires c.in_ok-nodes.nodes.items c.in_ok-nodes.ensures in
-    rw (c.requires.precedences, counted, many) (pairs_within (live_ids soc) c.args.limits.now.before.items)
+    let many : length c.in_ok-nodes.nodes.items ≡ length (live_ids soc) = node_count soc c.problem.inside.limits.now.wires c.in_ok-nodes.nodes.items c.in_ok-nodes.ensures in
+    rw (c.deref.ensures.value, c.problem.invariant.places.precedences, counted, many) (pairs_within (live_ids soc) c.problem.inside.limits.now.before.items)
 
 pub link_nodes-requires : goal.link_nodes-requires
 link_nodes-requires c =
@@ -24,11 +24,11 @@ link_nodes-requires c =
 
 pub returns : goal.returns
 returns c =
-    let soc = soc_value c.args.soc.now in
+    let soc = soc_value c.problem.inside.soc.now in
     let counted : c.len.result ≡ length c.in_ok-nodes.nodes.items = search rules in
-    let fixed : fixed_parts (node_values c.link_nodes.new.nodes.items) ≡ fixed_parts (live_nodes soc c.args.limits.now.wires) = c.link_nodes.ensures.fixed ∙ ap fixed_parts c.in_ok-nodes.ensures in
-    let ids : live_ids soc ≡ ids_of (node_values c.link_nodes.new.nodes.items) = sym (ids_same (node_values c.link_nodes.new.nodes.items) (live_nodes soc c.args.limits.now.wires) fixed ∙ live_ids_are soc c.args.limits.now.wires) in
+    let fixed : fixed_parts (node_values c.link_nodes.new.nodes.items) ≡ fixed_parts (live_nodes soc c.problem.inside.limits.now.wires) = c.link_nodes.ensures.fixed ∙ ap fixed_parts c.in_ok-nodes.ensures in
+    let ids : live_ids soc ≡ ids_of (node_values c.link_nodes.new.nodes.items) = sym (ids_same (node_values c.link_nodes.new.nodes.items) (live_nodes soc c.problem.inside.limits.now.wires) fixed ∙ live_ids_are soc c.problem.inside.limits.now.wires) in
     let long : length c.link_nodes.new.nodes.items ≡ length c.in_ok-nodes.nodes.items = same_count c.link_nodes.new.nodes.items c.in_ok-nodes.nodes.items c.link_nodes.ensures.fixed in
-    nodes_found soc (limits_value c.args.limits.now) (node_values c.link_nodes.new.nodes.items) c.requires.sound c.requires.wires fixed
-    (linked_by c.args.limits.now.before.items (node_values c.link_nodes.new.nodes.items) (live_ids soc) ids (ids_differ soc c.requires.sound) (λ j n at. (let b = before_is c.link_nodes.new.nodes.items j n at in
-    b.1 ∙ c.link_nodes.ensures.before j (subst (λ (k : ℕ). j < k) long b.0) ∙ c.in_ok-before.ensures.lists j (subst (λ (k : ℕ). j < k) (long ∙ sym counted) b.0) ∙ ap (tests_before j) c.requires.precedences)))
+    rw (← c.problem.view_is) (nodes_found soc (limits_value c.problem.inside.limits.now) (node_values c.link_nodes.new.nodes.items) c.problem.invariant.sound c.problem.invariant.bounds.some_wire fixed
+    (linked_by c.problem.inside.limits.now.before.items (node_values c.link_nodes.new.nodes.items) (live_ids soc) ids (ids_differ soc c.problem.invariant.sound) (λ j n at. (let b = before_is c.link_nodes.new.nodes.items j n at in
+    b.1 ∙ c.link_nodes.ensures.before j (subst (λ (k : ℕ). j < k) long b.0) ∙ c.in_ok-before.ensures.lists j (subst (λ (k : ℕ). j < k) (long ∙ sym counted) b.0) ∙ ap (tests_before j) (c.deref.ensures.value ∙ c.problem.invariant.places.precedences)))))

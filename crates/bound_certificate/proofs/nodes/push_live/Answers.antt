@@ -1,6 +1,4 @@
-use Rattle.std.proofs.Common.{◌≡◌, ◌∙◌, ◌++◌, List, Some, false, get_or, length, map, sym, ap, refl, arith}
-use Rattle.std.specs.Prelude.{slice_get}
-use Rattle.std.specs.List.{filter}
+use Rattle.std.proofs.Common.{◌≡◌, ◌∙◌, ◌++◌, List, Some, false, get_or, length, map, sym, ap, refl, arith, slice_get, filter}
 use Rattle.std.proofs.lemmas.List.{take_all}
 use Rattle.std.proofs.lemmas.Option.{slice_get-get_or}
 use Rattle.soc_model.specs.declared.Test.{Test}
@@ -8,8 +6,8 @@ use Rattle.soc_model.specs.Chips.{ModuleValue, is_live, module_value}
 use Rattle.bound_certificate.specs.declared.nodes.PrecedenceNode.{PrecedenceNode}
 use Rattle.bound_certificate.specs.Nodes.{node_in, node_values}
 use Rattle.bound_certificate.proofs.LiveNodes.{node_made, node_taken, node_left}
-use Rattle.bound_certificate.proofs.nodes.push_live.Goals as goal
 use Rattle.bound_certificate.proofs.nodes.push_live.Goals.{then-live+in_ok-push, else-live}
+use Rattle.bound_certificate.proofs.nodes.push_live.Goals as goal
 
 none : Test
 none = record { number = 0; scan = false; tam = false; patterns = 0; power = 0 }

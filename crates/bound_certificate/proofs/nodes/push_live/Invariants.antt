@@ -1,5 +1,4 @@
-use Rattle.std.proofs.Common.{◌≡◌, ◌++◌, map, take}
-use Rattle.std.specs.List.{filter}
+use Rattle.std.proofs.Common.{◌≡◌, ◌++◌, map, take, filter}
 use Rattle.soc_model.specs.Chips.{is_live, module_value}
 use Rattle.bound_certificate.specs.Nodes.{node_values, node_in}
 use Rattle.bound_certificate.proofs.nodes.push_live.Given as goal

@@ -1,5 +1,4 @@
-use Rattle.std.proofs.Common.{◌≡◌, ℕ, ◌<◌, Some}
-use Rattle.std.specs.Prelude.{slice_get}
+use Rattle.std.proofs.Common.{◌≡◌, ℕ, ◌<◌, Some, slice_get}
 use Rattle.bound_certificate.proofs.precedence_lists.is_before.Given as goal
 
 abbrev pub invariant-loop-a : goal.invariant-loop-a

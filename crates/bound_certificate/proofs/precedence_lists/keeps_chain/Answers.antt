@@ -1,9 +1,7 @@
-use Rattle.std.proofs.Common.{◌≡◌, ◌∙◌, ◌≤◌, ◌-◌, is_some, not, true, get_or, sym, ap, arith, true≢false}
+use Rattle.std.proofs.Common.{◌≡◌, ◌∙◌, ◌≤◌, ◌-◌, is_some, not, true, get_or, sym, ap, arith, true≢false, find}
 use Rattle.std.proofs.lemmas.Option.{slice_get-get_or}
-use Rattle.std.specs.List.{find}
-use Rattle.soc_model.specs.Chips.{soc_value}
+use Rattle.soc_model.specs.Chips.{soc_value, live_tests}
 use Rattle.plan_model.specs.Views.{limits_value}
-use Rattle.soc_model.specs.Chips.{live_tests}
 use Rattle.plan_model.specs.Certificates.{is_called}
 use Rattle.bound_certificate.proofs.ChainItems.{no_id, live_found, found_of, first_stands, stands_when}
 use Rattle.bound_certificate.proofs.precedence_lists.keeps_chain.Goals as goal

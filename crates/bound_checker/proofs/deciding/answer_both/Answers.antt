@@ -1,5 +1,3 @@
-use Rattle.soc_model.specs.Chips.{soc_value}
-use Rattle.plan_model.specs.Views.{limits_value}
 use Rattle.commands.specs.declared.FileKind.TheVariants.{Proof}
 use Rattle.commands.proofs.LoadStages.{own_loaded, own_stops}
 use Rattle.commands.proofs.OwnFiles.{bytes_follow, unread_follows}
@@ -9,18 +7,18 @@ use Rattle.bound_checker.proofs.deciding.answer_both.Goals as goal
 
 pub returns-in-Ok-clause-follows : goal.returns-in-Ok-clause-follows
 returns-in-Ok-clause-follows g c =
-    let answers = rw c.as_slice.ensures.value at c.answer_bytes.ensures in
-    bytes_follow Proof (SaysBound (soc_value c.args.both.soc) (limits_value c.args.both.limits)) (RefusesProof (soc_value c.args.both.soc) (limits_value c.args.both.limits)) bound_line c.args.name.now c.in-Ok.bytes.items _ _ _ _ c.in-Ok.ensures.loads.0 c.in-Ok.ensures.loads.1 answers
+    let answers = rw (c.as_slice.ensures.value, c.problem.ensures) at c.answer_proof-verdict.ensures in
+    bytes_follow Proof (SaysBound c.args.both.soc c.args.both.limits) (RefusesProof c.args.both.soc c.args.both.limits) bound_line c.args.name.now c.in-Ok.bytes.items _ _ _ _ c.in-Ok.ensures.loads.0 c.in-Ok.ensures.loads.1 answers
 
 pub returns-in-Err-clause-follows : goal.returns-in-Err-clause-follows
 returns-in-Err-clause-follows g c =
-    unread_follows Proof (SaysBound (soc_value c.args.both.soc) (limits_value c.args.both.limits)) (RefusesProof (soc_value c.args.both.soc) (limits_value c.args.both.limits)) bound_line c.args.name.now _ _ _ _ c.in-Err.ensures.loads
+    unread_follows Proof (SaysBound c.args.both.soc c.args.both.limits) (RefusesProof c.args.both.soc c.args.both.limits) bound_line c.args.name.now _ _ _ _ c.in-Err.ensures.loads
 
 pub returns-in-Ok-clause-by_loads : goal.returns-in-Ok-clause-by_loads
 returns-in-Ok-clause-by_loads g c =
-    let answers = rw c.as_slice.ensures.value at c.answer_bytes.ensures in
-    own_loaded g.H.Shelf.is_load Proof (SaysBound (soc_value c.args.both.soc) (limits_value c.args.both.limits)) (RefusesProof (soc_value c.args.both.soc) (limits_value c.args.both.limits)) bound_line c.args.name.now c.in-Ok.bytes.items c.args.shelf.now c.load_file.new.shelf c.answer_bytes.result c.in-Ok.ensures.by_loads answers
+    let answers = rw (c.as_slice.ensures.value, c.problem.ensures) at c.answer_proof-verdict.ensures in
+    own_loaded g.H.Shelf.is_load Proof (SaysBound c.args.both.soc c.args.both.limits) (RefusesProof c.args.both.soc c.args.both.limits) bound_line c.args.name.now c.in-Ok.bytes.items c.args.shelf.now c.load_file.new.shelf c.answer_proof-verdict.result c.in-Ok.ensures.by_loads answers
 
 pub returns-in-Err-clause-by_loads : goal.returns-in-Err-clause-by_loads
 returns-in-Err-clause-by_loads g c =
-    own_stops g.H.Shelf.is_load Proof (SaysBound (soc_value c.args.both.soc) (limits_value c.args.both.limits)) (RefusesProof (soc_value c.args.both.soc) (limits_value c.args.both.limits)) bound_line c.args.name.now c.args.shelf.now c.load_file.new.shelf c.in-Err.verdict c.in-Err.ensures.by_loads
+    own_stops g.H.Shelf.is_load Proof (SaysBound c.args.both.soc c.args.both.limits) (RefusesProof c.args.both.soc c.args.both.limits) bound_line c.args.name.now c.args.shelf.now c.load_file.new.shelf c.in-Err.verdict c.in-Err.ensures.by_loads

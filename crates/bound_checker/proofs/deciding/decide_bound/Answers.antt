@@ -1,6 +1,4 @@
 use Rattle.std.proofs.Common.{◌∙◌}
-use Rattle.soc_model.specs.Chips.{soc_value}
-use Rattle.plan_model.specs.Views.{limits_value}
 use Rattle.commands.proofs.AllFiles.{after_both, not_both}
 use Rattle.commands.proofs.LoadStages.{after_two, stops_both}
 use Rattle.bound_checker.specs.Requests.{with_proof}
@@ -19,7 +17,7 @@ returns-in-Ok-clause-held_stays g c = c.answer_both.ensures.held_stays ∙ c.loa
 
 pub returns-in-Ok-clause-by_loads : goal.returns-in-Ok-clause-by_loads
 returns-in-Ok-clause-by_loads g c =
-    after_two g.H.Shelf.is_load c.args.soc.now c.args.limits.now (with_proof c.args.proof.now) (soc_value c.in-Ok.both.soc) (limits_value c.in-Ok.both.limits) c.args.shelf.now c.load_both.new.shelf c.answer_both.new.shelf c.answer_both.result c.in-Ok.ensures.by_loads c.answer_both.ensures.by_loads
+    after_two g.H.Shelf.is_load c.args.soc.now c.args.limits.now (with_proof c.args.proof.now) c.in-Ok.both.soc c.in-Ok.both.limits c.args.shelf.now c.load_both.new.shelf c.answer_both.new.shelf c.answer_both.result c.in-Ok.ensures.by_loads c.answer_both.ensures.by_loads
 
 pub returns-in-Err-clause-by_loads : goal.returns-in-Err-clause-by_loads
 returns-in-Err-clause-by_loads g c = stops_both g.H.Shelf.is_load c.args.soc.now c.args.limits.now (with_proof c.args.proof.now) c.args.shelf.now c.load_both.new.shelf c.in-Err.verdict c.in-Err.ensures.by_loads

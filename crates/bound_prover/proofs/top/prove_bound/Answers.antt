@@ -1,5 +1,4 @@
-use Rattle.std.proofs.Common.{map}
-use Rattle.std.specs.Prelude.{string_bytes}
+use Rattle.std.proofs.Common.{map, string_bytes}
 use Rattle.commands.specs.Commands.{command_of}
 use Rattle.bound_prover.proofs.Answering.{settled_asked, headline}
 use Rattle.commands.proofs.Promised.{verdict_promised}

@@ -29,7 +29,7 @@ returns-clause-fault c =
 
 pub returns-clause-room : goal.returns-clause-room
 returns-clause-room c =
-    room_back c.args.basis.now c.args.case.now c.undo.new.self c.args.leaf.now c.check_nodes-checked.new.leaf c.args.turns.now c.check_nodes-checked.new.turns c.requires.room
+    room_back c.args.basis.now c.check_nodes-checked.new.leaf c.check_nodes-checked.new.turns c.requires.room
     (c.undo.ensures c.args.case.now c.mark-root.ensures c.requires.room.room.has c.check_nodes-checked.ensures.further) c.check_nodes-checked.ensures.leaves c.check_nodes-checked.auto.turns
 
 pub check_nodes-checked-requires-clause-leaves : goal.check_nodes-checked-requires-clause-leaves

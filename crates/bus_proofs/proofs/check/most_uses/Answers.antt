@@ -7,7 +7,7 @@ use Rattle.bus_proofs.proofs.check.most_uses.Goals as goal
 
 pub loop-place-preserved : goal.loop-place-preserved
 loop-place-preserved c =
-    uses_more c.args.nodes.now c.loop-place.place c.loop-place.most c.max-most.result c.index-nodes-place.result c.loop-place.invariant c.loop-place-test.true c.index-nodes-place.is
+    uses_more c.args.nodes.now c.loop-place.place c.loop-place.most c.max-most.result c.loop-place.invariant c.loop-place-test.true c.index-nodes-place.is
     (λ w e. omega (arith, c.uses_of.ensures w e, c.max-most.ensures)) (omega (arith, c.max-most.ensures))
 
 pub returns : goal.returns

@@ -1,5 +1,4 @@
-use Rattle.std.proofs.Common.{◌≡◌, ◌<◌, ◌≤◌, ℕ, Some, map}
-use Rattle.std.specs.Prelude.{slice_get}
+use Rattle.std.proofs.Common.{◌≡◌, ◌<◌, ◌≤◌, ℕ, Some, map, slice_get}
 use Rattle.bus_proofs.specs.Walks.{named_in}
 use Rattle.proof_model.specs.Proofs.{LeafValue, OfLeaf, node_value}
 use Rattle.bus_proofs.proofs.check.most_uses.Given as goal

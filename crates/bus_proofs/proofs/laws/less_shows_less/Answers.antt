@@ -1,4 +1,4 @@
-use Rattle.bus_proofs.proofs.Faults.{less_shows_less}
+use Rattle.bus_proofs.proofs.AcceptedProofs.{less_shows_less}
 use Rattle.bus_proofs.proofs.laws.less_shows_less.Goals as goal
 
 pub returns : goal.returns

@@ -1,4 +1,4 @@
-use Rattle.bus_proofs.proofs.OneTree.{one_tree}
+use Rattle.bus_proofs.proofs.AcceptedProofs.{one_tree}
 use Rattle.bus_proofs.proofs.laws.nodes_tell_the_tree.Goals as goal
 
 pub returns : goal.returns

@@ -1,4 +1,4 @@
-use Rattle.bus_proofs.proofs.WiderSlots.{wider_costs}
+use Rattle.bus_proofs.proofs.LikeBuses.{wider_costs}
 use Rattle.bus_proofs.proofs.laws.wider_slots_cost_no_less.Goals as goal
 
 pub returns : goal.returns

@@ -1,5 +1,4 @@
-use Rattle.std.proofs.Common.{map, take}
-use Rattle.std.specs.List.{All}
+use Rattle.std.proofs.Common.{map, take, All}
 use Rattle.proof_model.specs.Proofs.{list_value}
 use Rattle.bus_proofs.specs.LeafSlots.{IsNamed}
 use Rattle.bus_proofs.proofs.leaf.are_named.Given as goal

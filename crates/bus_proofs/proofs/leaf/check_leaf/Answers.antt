@@ -12,5 +12,5 @@ returns-clause-answer c =
     let are : c.are_named.result ≡ true = cc in
     let some : c.is_empty.result ≡ false = cc in
     let named = rw (c.known_ranks-known.ensures, c.deref.ensures.value, c.deref-2.ensures.value) at (c.are_named.ensures.yes are) in
-    λ k of. found c.args.basis.now k (weights_value c.args.weights.now) c.weighed_leaf.result (keeps_rule (lists_of c.args.basis.now) c.args.case.now k (weights_value c.args.weights.now) of few named)
+    λ k of. found c.args.basis.now k (weights_value c.args.weights.now) c.weighed_leaf.result (keeps_rule (lists_of c.args.basis.now) (weights_value c.args.weights.now) of few named)
     (subst (λ w. IsEmpty w k → ⊥) c.requires.of.wires (c.is_empty.ensures.no some k (sym of.intervals))) (c.weighed_leaf.ensures.answer k of) c.args.room.now.pack.work

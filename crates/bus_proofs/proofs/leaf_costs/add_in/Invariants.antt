@@ -1,5 +1,4 @@
-use Rattle.std.proofs.Common.{◌≡◌, ℕ, ◌+◌, ◌<◌, ◌≤◌, length}
-use Rattle.std.specs.Prelude.{slice_index}
+use Rattle.std.proofs.Common.{◌≡◌, ℕ, ◌+◌, ◌<◌, ◌≤◌, length, slice_index}
 use Rattle.bus_proofs.specs.ListTables.{role_at}
 use Rattle.bus_proofs.specs.LeafCosts.{in_weight}
 use Rattle.bus_proofs.proofs.leaf_costs.add_in.Given as goal

@@ -1,5 +1,4 @@
-use Rattle.std.proofs.Common.{◌+◌, ◌^◌, ◌≤◌, ◌<◌, ℕ, length, take, get_or, sym, subst, ◌∙◌, arith}
-use Rattle.std.specs.Prelude.{slice_index, slice_set}
+use Rattle.std.proofs.Common.{◌+◌, ◌^◌, ◌≤◌, ℕ, take, get_or, sym, subst, ◌∙◌, arith, slice_index, slice_set}
 use Rattle.std.proofs.lemmas.List.{length-set, length-take}
 use Rattle.std.proofs.lemmas.List.Elements.{All-take}
 use Rattle.bus_proofs.specs.LeafCosts.{AreTotals}
@@ -9,8 +8,8 @@ use Rattle.bus_proofs.proofs.leaf_costs.add_up.Goals as goal
 
 pub overflow_add-totals : goal.overflow_add-totals
 overflow_add-totals c =
-    let within : c.loop-list.list-index < length c.args.uses.now = c.loop-list-test.true in
-    let p : ℕ × ℕ = get_or c.args.uses.now c.loop-list.list-index (0, 0) in
+    let within = c.loop-list-test.true in
+    let p = get_or c.args.uses.now c.loop-list.list-index (0, 0) in
     let small = c.requires.small c.loop-list.list-index (0, 0) within in
     let listed = c.requires.listed c.loop-list.list-index (0, 0) within in
     let few = total_small (take c.loop-list.list-index c.args.uses.now) c.loop-list.totals p.0
@@ -19,8 +18,8 @@ overflow_add-totals c =
 
 pub loop-list-preserved : goal.loop-list-preserved
 loop-list-preserved c =
-    let within : c.loop-list.list-index < length c.args.uses.now = c.loop-list-test.true in
-    let p : ℕ × ℕ = get_or c.args.uses.now c.loop-list.list-index (0, 0) in
+    let within = c.loop-list-test.true in
+    let p = get_or c.args.uses.now c.loop-list.list-index (0, 0) in
     let listed = c.requires.listed c.loop-list.list-index (0, 0) within in
     let next = take_next c.args.uses.now c.loop-list.list-index (0, 0) within in
     record {

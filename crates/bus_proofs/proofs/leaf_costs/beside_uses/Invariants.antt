@@ -1,5 +1,4 @@
-use Rattle.std.proofs.Common.{◌≡◌, take}
-use Rattle.std.specs.List.{sum_by}
+use Rattle.std.proofs.Common.{◌≡◌, take, sum_by}
 use Rattle.bus_proofs.specs.Leaves.{is_rank}
 use Rattle.bus_proofs.specs.LeafCosts.{beside_use}
 use Rattle.bus_proofs.proofs.leaf_costs.beside_uses.Given as goal

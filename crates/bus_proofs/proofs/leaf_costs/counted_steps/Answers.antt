@@ -1,7 +1,7 @@
 use Rattle.std.proofs.Common.{◌-◌, get_or, min, arith}
 use Rattle.bound_rules.proofs.Energies.{none_added, next_added, all_added}
 use Rattle.bus_proofs.specs.Lists.{counted}
-use Rattle.bus_proofs.proofs.CountedSteps.{counted_cycles-le}
+use Rattle.bus_proofs.proofs.LeafSums.{counted_cycles-le}
 use Rattle.bus_proofs.proofs.leaf_costs.counted_steps.Goals as goal
 
 pub loop-from-init : goal.loop-from-init

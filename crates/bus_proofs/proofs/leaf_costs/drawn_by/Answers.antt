@@ -1,20 +1,17 @@
-use Rattle.std.proofs.Common.{◌≡◌, ◌∙◌, Some, None, position, sym, ap}
-use Rattle.std.specs.Prelude.{slice_get}
+use Rattle.std.proofs.Common.{◌∙◌, Some, sym, ap}
 use Rattle.std.proofs.lemmas.Option.{slice_get-get_or}
-use Rattle.soc_model.specs.Chips.{id_of, same_test}
-use Rattle.plan_model.specs.declared.Profile.{Profile}
+use Rattle.soc_model.specs.Chips.{id_of}
 use Rattle.bound_rules.proofs.ProfilePlaces.{place_within}
-use Rattle.bus_proofs.proofs.CountedSteps.{counted_steps-are, counted_own-is}
+use Rattle.bus_proofs.proofs.LeafSums.{counted_steps-are, counted_own-is}
 use Rattle.bus_proofs.proofs.leaf_costs.drawn_by.Goals as goal
 
 pub returns-in-Some-clause-sum : goal.returns-in-Some-clause-sum
 returns-in-Some-clause-sum c = λ l is own.
-    let found : Some c.in-Some.place ≡ position (λ (p : Profile). same_test p.test (id_of l)) c.args.limits.now.profiles.items = sym c.in-Some.is ∙ is in
+    let found = sym c.in-Some.is ∙ is in
     let within = (place_within (id_of l) c.args.limits.now.profiles.items c.in-Some.place found).0 in
-    let at : slice_get c.args.limits.now.profiles.items c.in-Some.place ≡ Some c.index.result.now = slice_get-get_or c.args.limits.now.profiles.items c.in-Some.place c.index.result.now within ∙ ap Some (sym c.index.ensures) in
-    c.counted_steps.ensures.sum ∙ counted_steps-are c.args.limits.now c.args.limit c.args.near l c.in-Some.place c.index.result.now c.deref.result.now c.args.cycles found at c.deref.ensures.value
+    let at = slice_get-get_or c.args.limits.now.profiles.items c.in-Some.place c.index.result.now within ∙ ap Some (sym c.index.ensures) in
+    c.counted_steps.ensures.sum ∙ counted_steps-are c.args.limits.now c.args.limit c.args.near l c.args.cycles found at c.deref.ensures.value
 
 pub returns-in-None-clause-sum : goal.returns-in-None-clause-sum
 returns-in-None-clause-sum c = λ l is own.
-    let found : None ≡ position (λ (p : Profile). same_test p.test (id_of l)) c.args.limits.now.profiles.items = sym c.in-None.is ∙ is in
-    c.counted_cycles.ensures.drawn ∙ counted_own-is c.args.limits.now c.args.limit c.args.near l c.args.own c.args.cycles found own
+    c.counted_cycles.ensures.drawn ∙ counted_own-is c.args.limits.now c.args.limit c.args.near l c.args.cycles (sym c.in-None.is ∙ is) own

@@ -1,5 +1,4 @@
-use Rattle.std.proofs.Common.{◌≡◌, take, position}
-use Rattle.std.specs.List.{sum_by}
+use Rattle.std.proofs.Common.{◌≡◌, take, position, sum_by}
 use Rattle.soc_model.specs.Chips.{LiveTest, id_of, same_test}
 use Rattle.plan_model.specs.declared.Profile.{Profile}
 use Rattle.plan_model.specs.Views.{limits_value}

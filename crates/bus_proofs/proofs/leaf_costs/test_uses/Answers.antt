@@ -1,6 +1,4 @@
-use Rattle.std.proofs.Common.{◌*◌, ◌∙◌, refl, sym, ap, arith}
-use Rattle.std.specs.Prelude.{slice_index}
-use Rattle.std.specs.List.{sum_by}
+use Rattle.std.proofs.Common.{◌∙◌, refl, sym, ap, arith, sum_by}
 use Rattle.std.proofs.lemmas.Option.{slice_get-map}
 use Rattle.plan_model.specs.Views.{profile_value}
 use Rattle.bound_rules.proofs.Energies.{sound_steps}
@@ -13,9 +11,7 @@ use Rattle.bus_proofs.proofs.leaf_costs.test_uses.Goals as goal
 
 pub beside_uses-beside-requires-clause-fits : goal.beside_uses-beside-requires-clause-fits
 beside_uses-beside-requires-clause-fits c =
-    let w = c.requires.weighed in
-    let t = c.requires.test in
-    rw c.deref.ensures.value (parts c.args.basis.now w.0 (is_rank c.args.rank) c.args.test c.args.cycles t.0 c.args.room.now w.1 t.1 c.requires.cycles).beside
+    rw c.deref.ensures.value (parts (is_rank c.args.rank) c.args.test c.args.cycles c.requires.weighed.1 c.requires.test.1 c.requires.cycles).beside
 
 pub drawn_uses-drawn-requires-clause-steps : goal.drawn_uses-drawn-requires-clause-steps
 drawn_uses-drawn-requires-clause-steps c = λ i p at.
@@ -26,15 +22,15 @@ drawn_uses-drawn-requires-clause-test c =
     let w = c.requires.weighed in
     let t = c.requires.test in
     let is = c.requires.basis.tests.tests.at c.args.test t.0 c.place_at-profile.result t.1 c.place_at-profile.ensures in
-    (t.0, is.profile, t.2, rw c.deref-2.ensures.value (parts c.args.basis.now w.0 (is_rank c.args.rank) c.args.test c.args.cycles t.0 c.args.room.now w.1 t.1 c.requires.cycles).drawn)
+    (t.0, is.profile, t.2, rw c.deref-2.ensures.value (parts (is_rank c.args.rank) c.args.test c.args.cycles w.1 t.1 c.requires.cycles).drawn)
 
 pub overflow_add-result : goal.overflow_add-result
 overflow_add-result c =
     let w = c.requires.weighed in
     let t = c.requires.test in
-    let all = (parts c.args.basis.now w.0 (is_rank c.args.rank) c.args.test c.args.cycles t.0 c.args.room.now w.1 t.1 c.requires.cycles).all in
+    let all = (parts (is_rank c.args.rank) c.args.test c.args.cycles w.1 t.1 c.requires.cycles).all in
     let beside = c.beside_uses-beside.ensures ∙ ap (sum_by (beside_use c.args.basis.now.lists (is_rank c.args.rank) c.args.test c.args.cycles)) c.deref.ensures.value in
-    let fits = two_fit c.inside_uses-inside.result c.beside_uses-beside.result (slice_index c.args.room.now.sums.items c.args.test * c.args.cycles) (sum_by (beside_use c.args.basis.now.lists (is_rank c.args.rank) c.args.test c.args.cycles) c.args.room.now.beside.items)
+    let fits = two_fit
     (sum_by (drawn_use (limits_of c.args.basis.now) t.0 c.args.cycles) c.args.room.now.power.items) USES_COST_MOST c.inside_uses-inside.ensures beside all in
     omega (arith, fits)
 
@@ -43,19 +39,16 @@ overflow_add-result-2 c =
     let w = c.requires.weighed in
     let t = c.requires.test in
     let is = c.requires.basis.tests.tests.at c.args.test t.0 c.place_at-profile.result t.1 c.place_at-profile.ensures in
-    let all = (parts c.args.basis.now w.0 (is_rank c.args.rank) c.args.test c.args.cycles t.0 c.args.room.now w.1 t.1 c.requires.cycles).all in
+    let all = (parts (is_rank c.args.rank) c.args.test c.args.cycles w.1 t.1 c.requires.cycles).all in
     let beside = c.beside_uses-beside.ensures ∙ ap (sum_by (beside_use c.args.basis.now.lists (is_rank c.args.rank) c.args.test c.args.cycles)) c.deref.ensures.value in
     let drawn = c.drawn_uses-drawn.ensures t.0 is.profile t.2 ∙ ap (sum_by (drawn_use (limits_of c.args.basis.now) t.0 c.args.cycles)) c.deref-2.ensures.value in
-    let fits = three_fit c.inside_uses-inside.result c.beside_uses-beside.result c.drawn_uses-drawn.result (slice_index c.args.room.now.sums.items c.args.test * c.args.cycles) (sum_by (beside_use c.args.basis.now.lists (is_rank c.args.rank) c.args.test c.args.cycles) c.args.room.now.beside.items)
-    (sum_by (drawn_use (limits_of c.args.basis.now) t.0 c.args.cycles) c.args.room.now.power.items) USES_COST_MOST c.inside_uses-inside.ensures beside drawn all in
-    omega (arith, fits)
+    omega (arith, three_fit USES_COST_MOST c.inside_uses-inside.ensures beside drawn all)
 
 pub returns : goal.returns
 returns c = λ weights l weighed at own.
     let is = c.requires.basis.tests.tests.at c.args.test l c.place_at-profile.result at c.place_at-profile.ensures in
     let beside = c.beside_uses-beside.ensures ∙ ap (sum_by (beside_use c.args.basis.now.lists (is_rank c.args.rank) c.args.test c.args.cycles)) c.deref.ensures.value in
     let drawn = c.drawn_uses-drawn.ensures l is.profile own ∙ ap (sum_by (drawn_use (limits_of c.args.basis.now) l c.args.cycles)) c.deref-2.ensures.value in
-    three_are c.inside_uses-inside.result c.beside_uses-beside.result c.drawn_uses-drawn.result (slice_index c.args.room.now.sums.items c.args.test * c.args.cycles) (sum_by (beside_use c.args.basis.now.lists (is_rank c.args.rank) c.args.test c.args.cycles) c.args.room.now.beside.items)
-    (sum_by (drawn_use (limits_of c.args.basis.now) l c.args.cycles) c.args.room.now.power.items) c.inside_uses-inside.ensures beside drawn
+    three_are c.inside_uses-inside.ensures beside drawn
     ∙ sym (weighed.made.uses (is_rank c.args.rank) c.args.test c.args.cycles l at)
     ∙ weighed.same (λ list. use_of (chip_of c.args.basis.now) (limits_of c.args.basis.now) (is_rank c.args.rank) list c.args.cycles l)

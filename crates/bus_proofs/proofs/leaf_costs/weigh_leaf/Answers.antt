@@ -7,19 +7,19 @@ use Rattle.bus_proofs.proofs.Totals.{totals_zero, small_uses, few_for, weighed_r
 use Rattle.bus_proofs.proofs.leaf_costs.weigh_leaf.Goals as goal
 
 pub add_up-requires-clause-none : goal.add_up-requires-clause-none
-add_up-requires-clause-none c = totals_zero c.deref_mut.result.now (vec_len c.args.room.now.totals) (c.deref_mut.ensures.value ∙ c.fill.ensures.items (λ y e. e))
+add_up-requires-clause-none c = totals_zero (vec_len c.args.room.now.totals) (c.deref_mut.ensures.value ∙ c.fill.ensures.items (λ y e. e))
 
 pub weigh_totals-requires-clause-few : goal.weigh_totals-requires-clause-few
 weigh_totals-requires-clause-few c =
     let w = c.requires.uses.0 in
     let own = ap (λ v. v.items) c.clear_weighed.ensures.totals ∙ with_items_is c.fill.new.self c.add_up.new.totals (omega (arith, c.add_up.ensures.long, c.deref_mut.ensures.len)) in
     let long : length c.add_up.new.totals ≡ length (lists_of c.args.basis.now) = omega (arith, c.add_up.ensures.long, c.deref_mut.ensures.len, c.fill.ensures.len, c.args.room.now.totals.ok.0, c.requires.space.totals) in
-    let are : AreTotals (c.requires.uses.0).lists c.add_up.new.totals = subst (λ os. AreTotals os c.add_up.new.totals) (sym c.requires.uses.1) c.add_up.ensures.totals in
-    few_for (c.requires.uses.0).lists c.add_up.new.totals c.clear_weighed.new.room.totals.items (length (lists_of c.args.basis.now)) own long (small_uses c.requires.uses.0 (c.requires.uses.2).small) (c.requires.uses.2).few are
+    let are = subst (λ os. AreTotals os c.add_up.new.totals) (sym c.requires.uses.1) c.add_up.ensures.totals in
+    few_for (c.requires.uses.0).lists own long (small_uses (c.requires.uses.2).small) (c.requires.uses.2).few are
 
 pub returns-clause-weighed : goal.returns-clause-weighed
 returns-clause-weighed c = λ w same uses.
     let own = ap (λ v. v.items) c.clear_weighed.ensures.totals ∙ with_items_is c.fill.new.self c.add_up.new.totals (omega (arith, c.add_up.ensures.long, c.deref_mut.ensures.len)) in
     let long : length c.add_up.new.totals ≡ length (lists_of c.args.basis.now) = omega (arith, c.add_up.ensures.long, c.deref_mut.ensures.len, c.fill.ensures.len, c.args.room.now.totals.ok.0, c.requires.space.totals) in
-    let are : AreTotals w.lists c.add_up.new.totals = subst (λ os. AreTotals os c.add_up.new.totals) (sym same) c.add_up.ensures.totals in
-    weighed_room c.args.basis.now w c.add_up.new.totals c.clear_weighed.new.room.totals.items c.weigh_totals.new.room own long uses are c.weigh_totals.ensures.made
+    let are = subst (λ os. AreTotals os c.add_up.new.totals) (sym same) c.add_up.ensures.totals in
+    weighed_room own long uses are c.weigh_totals.ensures.made

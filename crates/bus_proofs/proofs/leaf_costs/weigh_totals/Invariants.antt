@@ -1,5 +1,4 @@
-use Rattle.std.proofs.Common.{◌≡◌}
-use Rattle.std.specs.Prelude.{vec_capacity}
+use Rattle.std.proofs.Common.{◌≡◌, vec_capacity}
 use Rattle.bus_proofs.specs.LeafCosts.{IsMade, by_places}
 use Rattle.bus_proofs.proofs.leaf_costs.weigh_totals.Given as goal
 

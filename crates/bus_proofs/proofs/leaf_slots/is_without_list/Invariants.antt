@@ -1,5 +1,4 @@
-use Rattle.std.proofs.Common.{◌≢◌, take}
-use Rattle.std.specs.List.{All}
+use Rattle.std.proofs.Common.{◌≢◌, take, All}
 use Rattle.bus_proofs.specs.declared.leaf_costs.BesideUse.{BesideUse}
 use Rattle.bus_proofs.proofs.leaf_slots.is_without_list.Given as goal
 

@@ -3,7 +3,7 @@ use Rattle.proof_model.specs.Proofs.{weights_value}
 use Rattle.bus_proofs.specs.Cases.{known_ranks}
 use Rattle.bus_proofs.specs.Bases.{chip_of, claim_of}
 use Rattle.bus_proofs.specs.LeafSlots.{IsLeastOf, IsOfRanks, costs_at}
-use Rattle.bus_proofs.proofs.RanksTried.{none_tried}
+use Rattle.bus_proofs.proofs.LeafAnswers.{none_tried}
 use Rattle.bus_proofs.proofs.leaf_slots.least_on_ranks.Goals as goal
 
 pub loop-rank-init : goal.loop-rank-init
@@ -14,7 +14,7 @@ loop-rank-init c = record {
 
 pub returns-clause-least : goal.returns-clause-least
 returns-clause-least c = λ k of.
-    let long : length c.args.case.now.widths.intervals.items ≡ length k.intervals = ap length of.intervals in
+    let long = ap length of.intervals in
     let end : c.loop-rank.rank ≡ known_ranks k = omega (arith, c.loop-rank-test.false, c.loop-rank.auto.rank-end, c.known_ranks-known.ensures, long) in
     subst (λ n. IsLeastOf (costs_at c.args.basis.now (weights_value c.args.weights.now) c.args.place) (IsOfRanks (chip_of c.args.basis.now) (claim_of c.args.basis.now) k (weights_value c.args.weights.now) c.args.place n) c.loop-rank.tried.least) end
     (c.loop-rank.invariant.tried k of).least

@@ -21,7 +21,7 @@ returns-then-is_no_less-clause-cost c = λ weights is.
     let time : c.rated-time.result ≡ c.rate_of-rate.result * packed_tam_time (chip_of c.args.basis.now) c.args.place c.args.width = c.rated-time.ensures.rated ∙ ap (λ t. c.rate_of-rate.result * t) (rw c.requires.basis.times at c.tam_time.ensures.time) in
     let rate = c.rate_of-rate.ensures.rate in
     let low : less.0 ≤ costs_at c.args.basis.now weights c.args.place (range_slot c.args.range c.args.width) = rw (← rate) (omega (arith, less.2, time)) in
-    no_lesser (costs_at c.args.basis.now weights c.args.place) (chip_of c.args.basis.now) (claim_of c.args.basis.now) c.args.place (range_slot c.args.range c.args.width) c.args.least less.0 short less.1 low
+    no_lesser (costs_at c.args.basis.now weights c.args.place) (chip_of c.args.basis.now) (claim_of c.args.basis.now) c.args.place (range_slot c.args.range c.args.width) short less.1 low
 
 pub returns-clause-cost : goal.returns-clause-cost
 returns-clause-cost c = λ weights is. record {

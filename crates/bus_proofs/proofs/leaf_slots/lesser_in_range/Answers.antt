@@ -22,7 +22,7 @@ loop-width-preserved c = record {
   least = λ weights is.
       let some = c.requires.some_wire in
       let same : (v : ℕ) → c.loop-width.width ≤ v → v < c.next_width-width.result → packed_tam_time (chip_of c.args.basis.now) c.args.place v ≡ packed_tam_time (chip_of c.args.basis.now) c.args.place c.loop-width.width = λ v from to. subst (λ (t : TableValue). packed_tam_time t.chip c.args.place v ≡ packed_tam_time t.chip c.args.place c.loop-width.width) c.requires.basis.times (c.next_width-width.ensures.same v from to) in
-      range_lesser (costs_at c.args.basis.now weights c.args.place) (chip_of c.args.basis.now) (claim_of c.args.basis.now) c.args.place c.args.range c.loop-width.width c.next_width-width.result c.args.least c.loop-width.best c.lesser_at-best.result
+      range_lesser (costs_at c.args.basis.now weights c.args.place) (chip_of c.args.basis.now) (claim_of c.args.basis.now) c.args.place c.args.range c.loop-width.width c.next_width-width.result
       c.loop-width.invariant.from c.next_width-width.ensures.wider c.loop-width-test.true
       (λ v from to. jump_costs c.wider_slots_cost_no_less.ensures c.args.basis.now weights c.args.place c.args.range c.loop-width.width v (omega (arith, some, c.loop-width.invariant.from)) from (sym (same v from to)))
       same (c.loop-width.invariant.least weights is) (c.lesser_at-best.ensures.cost weights is);
@@ -33,5 +33,5 @@ pub loop-width-smaller : goal.loop-width-smaller
 loop-width-smaller c = omega (arith, c.loop-width-test.true, c.next_width-width.ensures.wider)
 
 pub returns-clause-least : goal.returns-clause-least
-returns-clause-least c = λ weights is. range_ended (costs_at c.args.basis.now weights c.args.place) (chip_of c.args.basis.now) (claim_of c.args.basis.now) c.args.place c.args.range c.loop-width.width c.args.least c.loop-width.best (omega (arith, c.loop-width-test.false))
+returns-clause-least c = λ weights is. range_ended (costs_at c.args.basis.now weights c.args.place) (chip_of c.args.basis.now) (claim_of c.args.basis.now) c.args.place c.args.range c.loop-width.width (omega (arith, c.loop-width-test.false))
     (c.loop-width.invariant.least weights is)

@@ -1,6 +1,6 @@
 use Rattle.std.proofs.Common.{◌∙◌, sym}
 use Rattle.proof_model.specs.Proofs.{weights_value}
-use Rattle.bus_proofs.proofs.LeafTotals.{unwired, wired}
+use Rattle.bus_proofs.proofs.LeafAnswers.{unwired, wired}
 use Rattle.bus_proofs.proofs.leaf_sums.module_least.Goals as goal
 
 pub returns-then-not-is_wired-clause-cost : goal.returns-then-not-is_wired-clause-cost

@@ -1,5 +1,4 @@
-use Rattle.std.proofs.Common.{◌≡◌, ◌≤◌, ◌*◌, ◌^◌, take}
-use Rattle.std.specs.List.{sum}
+use Rattle.std.proofs.Common.{◌≡◌, ◌≤◌, ◌*◌, ◌^◌, take, sum}
 use Rattle.bus_proofs.proofs.leaf_sums.rank_sum.Given as goal
 
 abbrev pub invariant-loop-weight : goal.invariant-loop-weight

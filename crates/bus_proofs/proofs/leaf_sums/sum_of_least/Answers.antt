@@ -1,8 +1,7 @@
-use Rattle.std.proofs.Common.{◌+◌, ◌*◌, ◌≤◌, arith}
+use Rattle.std.proofs.Common.{◌+◌, arith}
 use Rattle.proof_model.specs.Proofs.{weights_value}
-use Rattle.bus_proofs.specs.Bases.{chip_of}
 use Rattle.bus_proofs.specs.LeafCosts.{LEAF_COST_MOST}
-use Rattle.bus_proofs.proofs.LeafTotals.{few_all, few_modules, few_more, sum_more, sum_none}
+use Rattle.bus_proofs.proofs.LeafAnswers.{few_all, few_modules, few_more, sum_more, sum_none}
 use Rattle.bus_proofs.proofs.leaf_sums.sum_of_least.Goals as goal
 
 pub loop-place-init : goal.loop-place-init
@@ -13,8 +12,8 @@ loop-place-init c = record {
 
 pub overflow_add-sum : goal.overflow_add-sum
 overflow_add-sum c =
-    let sum : c.loop-place.sum + c.in-Some.cost ≤ (c.loop-place.place + 1) * LEAF_COST_MOST = few_more c.loop-place.place LEAF_COST_MOST c.loop-place.sum c.in-Some.cost c.loop-place.invariant.few c.in-Some.ensures.small in
-    let all : c.loop-place.sum + c.in-Some.cost ≤ 1000 * LEAF_COST_MOST = few_all (c.loop-place.place + 1) 1000 LEAF_COST_MOST (c.loop-place.sum + c.in-Some.cost) (omega (arith, c.loop-place-test.true, c.requires.of.modules, few_modules (chip_of c.args.basis.now) c.requires.basis.sound)) sum in
+    let sum = few_more c.loop-place.place LEAF_COST_MOST c.loop-place.sum c.in-Some.cost c.loop-place.invariant.few c.in-Some.ensures.small in
+    let all = few_all (c.loop-place.place + 1) 1000 LEAF_COST_MOST (c.loop-place.sum + c.in-Some.cost) (omega (arith, c.loop-place-test.true, c.requires.of.modules, few_modules c.requires.basis.sound)) sum in
     omega (arith, all)
 
 pub loop-place-preserved : goal.loop-place-preserved
@@ -25,4 +24,4 @@ loop-place-preserved c = record {
 
 pub returns-clause-small : goal.returns-clause-small
 returns-clause-small c =
-    few_all c.loop-place.place 1000 LEAF_COST_MOST c.loop-place.sum (omega (arith, c.loop-place.auto.place-end, c.loop-place-test.false, c.requires.of.modules, few_modules (chip_of c.args.basis.now) c.requires.basis.sound)) c.loop-place.invariant.few
+    few_all c.loop-place.place 1000 LEAF_COST_MOST c.loop-place.sum (omega (arith, c.loop-place.auto.place-end, c.loop-place-test.false, c.requires.of.modules, few_modules c.requires.basis.sound)) c.loop-place.invariant.few

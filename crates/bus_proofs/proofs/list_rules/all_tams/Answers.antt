@@ -1,17 +1,17 @@
-use Rattle.std.proofs.Common.{◌≡◌, ℕ, length, map, arith}
+use Rattle.std.proofs.Common.{ℕ, arith}
 use Rattle.std.proofs.lemmas.List.{length-map}
 use Rattle.soc_model.specs.declared.Module.{Module}
-use Rattle.soc_model.specs.Chips.{LiveTest, live_tests, module_value, soc_value}
-use Rattle.bus_proofs.proofs.Tams.{tams_done, tams_more}
+use Rattle.soc_model.specs.Chips.{module_value, soc_value}
+use Rattle.bus_proofs.proofs.TestTables.{tams_done, tams_more}
 use Rattle.bus_proofs.proofs.list_rules.all_tams.Goals as goal
 
 pub loop-place-preserved : goal.loop-place-preserved
 loop-place-preserved c =
-    tams_more (soc_value c.args.soc.now).modules c.loop-place.tams.items c.push_tams.new.tams.items (map (λ (l : LiveTest). l.test.tam) (live_tests (soc_value c.args.soc.now)))
-    c.loop-place.place (module_value c.module_at.result.now) c.module_at.ensures c.in_ok-push_tams.ensures c.loop-place.invariant
+    tams_more (soc_value c.args.soc.now).modules c.loop-place.tams.items
+    c.loop-place.place c.module_at.ensures c.in_ok-push_tams.ensures c.loop-place.invariant
 
 pub returns : goal.returns
 returns c =
-    let long : length (soc_value c.args.soc.now).modules ≡ length c.args.soc.now.modules.entries = length-map c.args.soc.now.modules.entries (λ (e : ℕ × Module). module_value e.1) in
-    tams_done (soc_value c.args.soc.now).modules c.loop-place.tams.items (map (λ (l : LiveTest). l.test.tam) (live_tests (soc_value c.args.soc.now)))
+    let long = length-map c.args.soc.now.modules.entries (λ (e : ℕ × Module). module_value e.1) in
+    tams_done (soc_value c.args.soc.now).modules c.loop-place.tams.items
     c.loop-place.place (omega (arith, long, c.len-place-end.ensures.len, c.loop-place-test.false)) c.loop-place.invariant

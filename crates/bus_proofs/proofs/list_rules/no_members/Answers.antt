@@ -2,7 +2,7 @@ use Rattle.std.proofs.Common.{◌≡◌, ◌∙◌, false, length, replicate, ap
 use Rattle.std.proofs.lemmas.List.{length-map}
 use Rattle.soc_model.specs.Chips.{LiveTest, live_tests}
 use Rattle.bus_proofs.specs.ListRules.{chip_ruled}
-use Rattle.bus_proofs.proofs.Marked.{none_among}
+use Rattle.bus_proofs.proofs.ListRows.{none_among}
 use Rattle.bus_proofs.proofs.list_rules.no_members.Goals as goal
 
 pub returns : goal.returns
@@ -11,6 +11,6 @@ returns c =
     let long = count ∙ ap length c.requires.tams ∙ length-map (live_tests (chip_ruled c.args.rules.now)) (λ (l : LiveTest). l.test.tam) in
     let made_among : c.in_ok-among.among.items ≡ replicate c.len.result false = search rules in
     record {
-      among = made_among ∙ none_among (live_tests (chip_ruled c.args.rules.now)) c.len.result long;
+      among = made_among ∙ none_among (live_tests (chip_ruled c.args.rules.now)) long;
       powers = c.new.ensures.items;
     }

@@ -2,7 +2,7 @@ use Rattle.std.proofs.Common.{◌≡◌, ◌∙◌, false, true, length, replica
 use Rattle.std.proofs.lemmas.List.{length-map}
 use Rattle.soc_model.specs.Chips.{LiveTest, live_tests}
 use Rattle.bus_proofs.specs.ListRules.{chip_ruled, limits_ruled}
-use Rattle.bus_proofs.proofs.Marked.{none_among, all_apart}
+use Rattle.bus_proofs.proofs.ListRows.{none_among, all_apart}
 use Rattle.bus_proofs.proofs.list_rules.no_turns.Goals as goal
 
 pub returns : goal.returns
@@ -12,6 +12,6 @@ returns c =
     let made_among : c.in_ok-among.among.items ≡ replicate c.len-count.result false = search rules in
     let made_apart : c.in_ok-apart.apart.items ≡ replicate c.len-count.result true = search rules in
     record {
-      among = made_among ∙ none_among (live_tests (chip_ruled c.args.rules.now)) c.len-count.result long;
-      apart = made_apart ∙ all_apart (chip_ruled c.args.rules.now) (limits_ruled c.args.rules.now) (live_tests (chip_ruled c.args.rules.now)) c.len-count.result long;
+      among = made_among ∙ none_among (live_tests (chip_ruled c.args.rules.now)) long;
+      apart = made_apart ∙ all_apart (chip_ruled c.args.rules.now) (limits_ruled c.args.rules.now) (live_tests (chip_ruled c.args.rules.now)) long;
     }

@@ -1,5 +1,4 @@
-use Rattle.std.proofs.Common.{◌≡◌, ◌*◌, ◌≤◌, take}
-use Rattle.std.specs.List.{sum}
+use Rattle.std.proofs.Common.{◌≡◌, ◌*◌, ◌≤◌, take, sum}
 use Rattle.bus_proofs.proofs.list_rules.pass_limit.Given as goal
 
 abbrev pub invariant-loop-place : goal.invariant-loop-place

@@ -1,11 +1,11 @@
-use Rattle.std.proofs.Common.{◌∙◌, Some, subst}
+use Rattle.std.proofs.Common.{◌∙◌, subst}
 use Rattle.bus_proofs.specs.ListRules.{MembersMarked}
 use Rattle.bus_proofs.proofs.ListRows.{crowd_is, crowd_put}
 use Rattle.bus_proofs.proofs.list_table.add_crowd.Goals as goal
 
 pub returns : goal.returns
 returns c =
-    let h : MembersMarked c.args.rules.now c.args.tests.now (Some c.in-Some.marks) = subst (MembersMarked c.args.rules.now c.args.tests.now) c.in-Some.is c.in_ok-marks.ensures in (
-      crowd_is c.args.rules.now c.args.most c.args.tests.now c.in-Some.marks c.deref.result.now h.0 h.1 c.deref.ensures.value (c.in_ok-are_heavy.ensures.yes c.if-not-branch.false),
-      crowd_put c.args.rules.now c.args.most c.args.tests.now c.deref-2.result.now c.args.roles.now.items c.push_members.new.roles.items (c.deref-2.ensures.value ∙ h.1.among) c.in_ok-push_members.ensures,
+    let h = subst (MembersMarked c.args.rules.now c.args.tests.now) c.in-Some.is c.in_ok-marks.ensures in (
+      crowd_is c.args.most h.0 h.1 c.deref.ensures.value (c.in_ok-are_heavy.ensures.yes c.if-not-branch.false),
+      crowd_put c.args.rules.now c.args.most c.args.tests.now c.args.roles.now.items (c.deref-2.ensures.value ∙ h.1.among) c.in_ok-push_members.ensures,
     )

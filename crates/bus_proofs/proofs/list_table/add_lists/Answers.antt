@@ -1,5 +1,4 @@
-use Rattle.std.proofs.Common.{◌≡◌, Some, false, true, map, inl, inr, subst, sym, arith, rules}
-use Rattle.std.specs.Prelude.{slice_get}
+use Rattle.std.proofs.Common.{false, true, map, inl, inr, subst, sym, arith, rules}
 use Rattle.std.proofs.lemmas.List.{length-map}
 use Rattle.bus_proofs.specs.Bounds.{KeptBehind}
 use Rattle.proof_model.specs.Proofs.{list_value}
@@ -10,18 +9,18 @@ use Rattle.bus_proofs.proofs.list_table.add_lists.Goals as goal
 
 pub loop-place-preserved : goal.loop-place-preserved
 loop-place-preserved c =
-    let at : slice_get (map list_value c.args.lists.now) c.loop-place.place ≡ Some (list_value c.index-lists-place.result) = made_at list_value c.args.lists.now c.loop-place.place c.index-lists-place.result (search rules) c.index-lists-place.is in
-    let added : ListAdded c.args.rules.now (list_value c.index-lists-place.result) c.loop-place.roles.items c.add_list.new.roles.items true =
+    let at = made_at list_value c.args.lists.now c.loop-place.place (search rules) c.index-lists-place.is in
+    let added =
     subst (ListAdded c.args.rules.now (list_value c.index-lists-place.result) c.loop-place.roles.items c.add_list.new.roles.items) c.if-not-branch.false c.in_ok-add_list.ensures in
     record {
       each = each_more (KeptBehind (chip_ruled c.args.rules.now) (limits_ruled c.args.rules.now)) (map list_value c.args.lists.now) c.loop-place.place (list_value c.index-lists-place.result) c.loop-place.invariant.each at added.0;
-      roles = row_more (roles_in c.args.rules.now) (map list_value c.args.lists.now) c.loop-place.place (list_value c.index-lists-place.result) c.args.roles.now.items c.loop-place.roles.items c.add_list.new.roles.items at c.loop-place.invariant.roles added.1;
+      roles = row_more (roles_in c.args.rules.now) (map list_value c.args.lists.now) c.loop-place.place c.args.roles.now.items at c.loop-place.invariant.roles added.1;
     }
 
 pub returns-then-not-branch-clause-first : goal.returns-then-not-branch-clause-first
 returns-then-not-branch-clause-first c =
-    let at : slice_get (map list_value c.args.lists.now) c.loop-place.place ≡ Some (list_value c.index-lists-place.result) = made_at list_value c.args.lists.now c.loop-place.place c.index-lists-place.result (search rules) c.index-lists-place.is in
-    let broken : ListAdded c.args.rules.now (list_value c.index-lists-place.result) c.loop-place.roles.items c.add_list.new.roles.items false =
+    let at = made_at list_value c.args.lists.now c.loop-place.place (search rules) c.index-lists-place.is in
+    let broken =
     subst (ListAdded c.args.rules.now (list_value c.index-lists-place.result) c.loop-place.roles.items c.add_list.new.roles.items) c.if-not-branch.true c.in_ok-add_list.ensures in
     inr (list_value c.index-lists-place.result, first_here (KeptBehind (chip_ruled c.args.rules.now) (limits_ruled c.args.rules.now)) (map list_value c.args.lists.now) c.loop-place.place (list_value c.index-lists-place.result) c.loop-place.invariant.each at broken.0)
 

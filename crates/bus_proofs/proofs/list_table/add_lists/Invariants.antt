@@ -1,5 +1,4 @@
-use Rattle.std.proofs.Common.{◌≡◌, ◌++◌, map, take}
-use Rattle.std.specs.List.{flat_map}
+use Rattle.std.proofs.Common.{◌≡◌, ◌++◌, map, take, flat_map}
 use Rattle.proof_model.specs.Proofs.{list_value}
 use Rattle.bus_proofs.specs.Bounds.{KeptBehind}
 use Rattle.bus_proofs.specs.ListRules.{chip_ruled, limits_ruled, roles_in}

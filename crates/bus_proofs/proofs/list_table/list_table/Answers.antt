@@ -1,7 +1,4 @@
-use Rattle.std.proofs.Common.{◌≡◌, ◌∙◌, ◌++◌, length, map, take, ap, rules}
-use Rattle.std.specs.List.{flat_map}
-use Rattle.soc_model.specs.Chips.{soc_value}
-use Rattle.plan_model.specs.Views.{limits_value}
+use Rattle.std.proofs.Common.{◌≡◌, ◌∙◌, ◌++◌, length, map, take, ap, rules, flat_map}
 use Rattle.proof_model.specs.Proofs.{list_value}
 use Rattle.bus_proofs.specs.ListRules.{roles_in}
 use Rattle.bus_proofs.proofs.ListRows.{table_of_rules}
@@ -9,7 +6,8 @@ use Rattle.bus_proofs.proofs.list_table.list_table.Goals as goal
 
 pub returns : goal.returns
 returns c =
+    let p = c.args.problem.now in
     let tests : c.len-tests.result ≡ length c.in_ok-rules.rules.tams.items = search rules in
-    table_of_rules c.in_ok-rules.rules (soc_value c.args.soc.now) (limits_value c.args.limits.now) (map list_value c.args.lists.now) (record { kept = c.in_ok-kept.kept; roles = c.add_lists.new.roles; tests = c.len-tests.result }) c.in_ok-rules.ensures.rules
-    (ap soc_value c.in_ok-rules.ensures.chip) (ap limits_value c.in_ok-rules.ensures.limits) tests c.in_ok-kept.ensures.first
+    table_of_rules c.in_ok-rules.rules p.soc p.limits (map list_value c.args.lists.now) (record { kept = c.in_ok-kept.kept; roles = c.add_lists.new.roles; tests = c.len-tests.result }) c.in_ok-rules.ensures.rules
+    c.in_ok-rules.ensures.chip c.in_ok-rules.ensures.limits tests c.in_ok-kept.ensures.first
     (c.in_ok-kept.ensures.roles ∙ ap (λ l. l ++ flat_map (roles_in c.in_ok-rules.rules) (take c.in_ok-kept.kept (map list_value c.args.lists.now))) c.new-roles.ensures.items)

@@ -1,21 +1,19 @@
-use Rattle.std.proofs.Common.{◌≡◌, ◌<◌, ◌∙◌, ◌++◌, length, map, ap, arith, rules}
+use Rattle.std.proofs.Common.{sym, ◌≡◌, ◌<◌, ◌∙◌, ◌++◌, length, map, ap, arith, rules}
 use Rattle.std.proofs.lemmas.List.{length-map, take_all}
 use Rattle.soc_model.specs.Chips.{LiveTest, live_tests}
 use Rattle.proof_model.specs.Proofs.{OfTurnsOn}
 use Rattle.bus_proofs.specs.ListTables.{role_of}
 use Rattle.bus_proofs.specs.ListRules.{chip_ruled, limits_ruled}
-use Rattle.bus_proofs.specs.Takings.{bit_at}
-use Rattle.bus_proofs.proofs.ListRows.{bit_read, turns_on_more}
+use Rattle.bus_proofs.proofs.ListRows.{turns_on_more, bit_read}
 use Rattle.bus_proofs.proofs.list_table.push_turns_on.Goals as goal
 
 pub loop-place-preserved : goal.loop-place-preserved
 loop-place-preserved c =
     let within : c.loop-place.place < length c.args.rules.now.tams.items = search rules in
-    let among : c.index.result.now ≡ bit_at c.args.marks.now.among.items c.loop-place.place = bit_read c.args.marks.now.among.items c.loop-place.place c.index.result.now (omega (arith, within, c.requires.among)) c.index.ensures in
-    let tam : c.index-in-loop-place.result.now ≡ bit_at c.args.rules.now.tams.items c.loop-place.place = bit_read c.args.rules.now.tams.items c.loop-place.place c.index-in-loop-place.result.now within c.index-in-loop-place.ensures in
-    let apart : c.index-in-loop-place-2.result.now ≡ bit_at c.args.marks.now.apart.items c.loop-place.place = bit_read c.args.marks.now.apart.items c.loop-place.place c.index-in-loop-place-2.result.now (omega (arith, within, c.requires.apart)) c.index-in-loop-place-2.ensures in
-    λ rank tests are. turns_on_more c.args.rules.now rank tests c.args.marks.now c.args.roles.now.items c.loop-place.roles.items c.push.new.to.items c.loop-place.place
-    c.index.result.now c.index-in-loop-place.result.now c.index-in-loop-place-2.result.now c.turn_role-role.result c.requires.rules are within among tam apart c.turn_role-role.ensures
+    let among = sym (bit_read c.args.marks.now.among.items c.loop-place.place (omega (arith, within, c.requires.among)) c.index.ensures) in
+    let tam = sym (bit_read c.args.rules.now.tams.items c.loop-place.place within c.index-in-loop-place.ensures) in
+    let apart = sym (bit_read c.args.marks.now.apart.items c.loop-place.place (omega (arith, within, c.requires.apart)) c.index-in-loop-place-2.ensures) in
+    λ rank tests are. turns_on_more rank c.args.roles.now.items c.loop-place.place c.requires.rules are within among tam apart c.turn_role-role.ensures
     (c.loop-place.invariant rank tests are) c.in_ok-push.ensures.ok
 
 pub returns : goal.returns

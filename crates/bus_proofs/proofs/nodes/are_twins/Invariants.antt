@@ -1,5 +1,4 @@
-use Rattle.std.proofs.Common.{ℕ, ◌<◌}
-use Rattle.std.specs.Prelude.{slice_index}
+use Rattle.std.proofs.Common.{ℕ, ◌<◌, slice_index}
 use Rattle.bus_proofs.specs.Cases.{AreTwins, Case}
 use Rattle.bus_proofs.specs.CaseRooms.{IsCaseOf}
 use Rattle.bus_proofs.specs.Bases.{chip_of}

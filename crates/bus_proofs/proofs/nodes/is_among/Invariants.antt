@@ -1,5 +1,4 @@
-use Rattle.std.proofs.Common.{◌≡◌, ℕ, ◌<◌}
-use Rattle.std.specs.Prelude.{slice_index}
+use Rattle.std.proofs.Common.{◌≡◌, ℕ, ◌<◌, slice_index}
 use Rattle.bus_proofs.proofs.nodes.is_among.Given as goal
 
 abbrev pub invariant-loop-at : goal.invariant-loop-at

@@ -23,14 +23,14 @@ weigh_leaf-requires-2-clause-uses c =
     let rule = c.if-not-keeps_rule.ensures.yes refl k.0 k.1 in (
       list_weights (pricing_value c.args.pricing.now),
       sym c.deref-2.ensures.value,
-      pack_uses c.args.basis.now k.0 (pricing_value c.args.pricing.now) rule.named c.requires.prices (omega (arith, c.requires.few)),
+      pack_uses c.args.basis.now k.0 rule.named c.requires.prices (omega (arith, c.requires.few)),
     )
 
 pub pays_too_much-requires-clause-leaf : goal.pays_too_much-requires-clause-leaf
 pays_too_much-requires-clause-leaf c =
     let k = c.requires.known in
     let rule = c.if-not-keeps_rule.ensures.yes refl k.0 k.1 in
-    let uses = pack_uses c.args.basis.now k.0 (pricing_value c.args.pricing.now) rule.named c.requires.prices (omega (arith, c.requires.few)) in
+    let uses = pack_uses c.args.basis.now k.0 rule.named c.requires.prices (omega (arith, c.requires.few)) in
     let ready = c.weigh_leaf-2.ensures.weighed (list_weights (pricing_value c.args.pricing.now)) (sym c.deref-2.ensures.value) uses in
     record {
       setting = record {

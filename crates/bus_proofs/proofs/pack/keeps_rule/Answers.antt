@@ -1,5 +1,4 @@
-use Rattle.std.proofs.Common.{◌+◌, refl, ap, subst, ◌∙◌, arith, length}
-use Rattle.std.specs.List.{All}
+use Rattle.std.proofs.Common.{◌+◌, refl, ap, subst, ◌∙◌, arith, length, All}
 use Rattle.proof_model.specs.Proofs.{pricing_value}
 use Rattle.bus_proofs.specs.Bases.{chip_of, lists_of, claim_of}
 use Rattle.bus_proofs.specs.LeafSlots.{IsNamed}
@@ -8,15 +7,13 @@ use Rattle.bus_proofs.proofs.pack.keeps_rule.Goals as goal
 
 pub returns-then-cells-gt-PACK_CELLS_MOST-clause-no : goal.returns-then-cells-gt-PACK_CELLS_MOST-clause-no
 returns-then-cells-gt-PACK_CELLS_MOST-clause-no c = λ e k of rule.
-    let cells = c.cells_of-cells.ensures (pricing_value c.args.pricing.now) refl in
-    omega (arith, cells, rule.few, c.if-cells-gt-PACK_CELLS_MOST.true)
+    omega (arith, c.cells_of-cells.ensures (pricing_value c.args.pricing.now) refl, rule.few, c.if-cells-gt-PACK_CELLS_MOST.true)
 
 pub returns-clause-work : goal.returns-clause-work
 returns-clause-work c = λ e k of.
     let cells = c.cells_of-cells.ensures (pricing_value c.args.pricing.now) refl in
     let work = c.pack_work.ensures.work k (claim_of c.args.basis.now) of cells ∙ ap (λ w. pack_work w (claim_of c.args.basis.now) k (pricing_value c.args.pricing.now)) c.requires.of.wires in
-    let noted = c.note_work.ensures.yes e in
-    noted.1 ∙ ap (λ n. c.args.room.now.work + n) work
+    (c.note_work.ensures.yes e).1 ∙ ap (λ n. c.args.room.now.work + n) work
 
 pub returns-clause-yes : goal.returns-clause-yes
 returns-clause-yes c = λ e k of.
@@ -37,5 +34,4 @@ pub returns-clause-no : goal.returns-clause-no
 returns-clause-no c = λ e k of rule.
     let cells = c.cells_of-cells.ensures (pricing_value c.args.pricing.now) refl in
     let work = c.pack_work.ensures.work k (claim_of c.args.basis.now) of cells ∙ ap (λ w. pack_work w (claim_of c.args.basis.now) k (pricing_value c.args.pricing.now)) c.requires.of.wires in
-    let little = rule.little in
-    (c.note_work.ensures.no e).0 (omega (arith, little, work))
+    (c.note_work.ensures.no e).0 (omega (arith, rule.little, work))

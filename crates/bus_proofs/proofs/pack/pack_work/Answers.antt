@@ -1,8 +1,7 @@
-use Rattle.std.proofs.Common.{refl, sym, ap, ◌∙◌}
-use Rattle.std.specs.Prelude.{if◌then◌else◌}
+use Rattle.std.proofs.Common.{refl, sym, ap, ◌∙◌, if◌then◌else◌}
 use Rattle.proof_model.specs.Proofs.{pricing_value}
 use Rattle.bus_proofs.specs.PackLeaves.{work_in}
-use Rattle.bus_proofs.proofs.PackRules.{some_is}
+use Rattle.bus_proofs.proofs.PackAnswers.{some_is}
 use Rattle.bus_proofs.proofs.pack.pack_work.Goals as goal
 
 pub returns : goal.returns

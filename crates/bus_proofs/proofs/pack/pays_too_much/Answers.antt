@@ -1,26 +1,25 @@
 use Rattle.std.proofs.Common.{sym, arith}
 use Rattle.proof_model.specs.Proofs.{pricing_value}
-use Rattle.bus_proofs.specs.Bases.{chip_of, limits_of, lists_of, claim_of}
-use Rattle.bus_proofs.specs.PackLeaves.{IsFilling, filling_worth, list_weights}
+use Rattle.bus_proofs.specs.Bases.{chip_of, limits_of, claim_of}
+use Rattle.bus_proofs.specs.PackLeaves.{IsFilling, list_weights}
 use Rattle.bus_proofs.proofs.PackAnswers.{one_greatest, pays_is}
 use Rattle.bus_proofs.proofs.PackSteps.{few_modules_priced}
 use Rattle.bus_proofs.proofs.pack.pays_too_much.Goals as goal
 
 pub price_sum-prices-requires-clause-few : goal.price_sum-prices-requires-clause-few
-price_sum-prices-requires-clause-few c = few_modules_priced c.args.basis.now (pricing_value c.args.pricing.now) c.requires.leaf.setting.basis c.requires.leaf.once
+price_sum-prices-requires-clause-few c = few_modules_priced (pricing_value c.args.pricing.now) c.requires.leaf.setting.basis c.requires.leaf.once
 
 pub returns-clause-yes : goal.returns-clause-yes
 returns-clause-yes c = λ e k of. record {
   most = c.most_filled-filled.result;
   greatest = c.most_filled-filled.ensures.most k of;
-  more = pays_is c.most_filled-filled.result c.args.weighed.now.rooms _ (claim_of c.args.basis.now) c.from.result _ c.self_cost.result _ c.requires.leaf.ready.rooms (omega (arith, c.from.ensures, c.price_sum-prices.ensures.sum))
+  more = pays_is c.most_filled-filled.result (claim_of c.args.basis.now) c.from.result _ c.requires.leaf.ready.rooms (omega (arith, c.from.ensures, c.price_sum-prices.ensures.sum))
       (c.self_cost.ensures.cost (list_weights (pricing_value c.args.pricing.now)) c.requires.leaf.ready) (c.is_more.ensures.yes e);
 }
 
 pub returns-clause-no : goal.returns-clause-no
 returns-clause-no c = λ e k of pays.
-    let same = one_greatest (IsFilling (chip_of c.args.basis.now) (limits_of c.args.basis.now).wires (claim_of c.args.basis.now) k (pricing_value c.args.pricing.now))
-    (filling_worth (chip_of c.args.basis.now) (limits_of c.args.basis.now) (lists_of c.args.basis.now) k (pricing_value c.args.pricing.now)) pays.most c.most_filled-filled.result pays.greatest (c.most_filled-filled.ensures.most k of) in
-    let back = pays_is pays.most _ c.args.weighed.now.rooms (claim_of c.args.basis.now) _ c.from.result _ c.self_cost.result (sym c.requires.leaf.ready.rooms) (omega (arith, c.from.ensures, c.price_sum-prices.ensures.sum))
+    let same = one_greatest (IsFilling (chip_of c.args.basis.now) (limits_of c.args.basis.now).wires (claim_of c.args.basis.now) k (pricing_value c.args.pricing.now)) pays.greatest (c.most_filled-filled.ensures.most k of) in
+    let back = pays_is pays.most (claim_of c.args.basis.now) _ c.from.result (sym c.requires.leaf.ready.rooms) (omega (arith, c.from.ensures, c.price_sum-prices.ensures.sum))
     (sym (c.self_cost.ensures.cost (list_weights (pricing_value c.args.pricing.now)) c.requires.leaf.ready)) pays.more in
     c.is_more.ensures.no e (omega (arith, same, back))

@@ -1,5 +1,4 @@
-use Rattle.std.proofs.Common.{◌≡◌, ◌≤◌, ◌*◌, ◌^◌, ℕ, take}
-use Rattle.std.specs.List.{sum_by}
+use Rattle.std.proofs.Common.{◌≡◌, ◌≤◌, ◌*◌, ◌^◌, ℕ, take, sum_by}
 use Rattle.bus_proofs.proofs.pack.price_sum.Given as goal
 
 abbrev pub invariant-loop-item : goal.invariant-loop-item

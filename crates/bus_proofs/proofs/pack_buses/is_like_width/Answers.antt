@@ -1,4 +1,4 @@
-use Rattle.std.proofs.Common.{◌≡◌, ◌<◌, length, refl, sym, subst, ◌∙◌, arith, inl, inr}
+use Rattle.std.proofs.Common.{◌<◌, length, refl, sym, subst, ◌∙◌, arith, inl, inr}
 use Rattle.std.proofs.lemmas.Bool.{cases_eq}
 use Rattle.proof_model.specs.Proofs.{pricing_value}
 use Rattle.bus_proofs.specs.Bases.{chip_of}
@@ -12,16 +12,15 @@ pub is_like_item-requires-clause-place : goal.is_like_item-requires-clause-place
 is_like_item-requires-clause-place c =
     let less : c.loop-item.item < length (pricing_value c.args.pricing.now).prices = omega (arith, c.loop-item-test.true, c.len-item-end.ensures) in
     let place = c.priced_at-priced.ensures.place ∙ c.requires.places c.loop-item.item less in
-    let within = item_within (chip_of c.args.basis.now) (pricing_value c.args.pricing.now) c.loop-item.item c.requires.leaf.once less in
-    omega (arith, place, within)
+    omega (arith, place, item_within (pricing_value c.args.pricing.now) c.loop-item.item c.requires.leaf.once less)
 
 pub loop-item-preserved : goal.loop-item-preserved
 loop-item-preserved c = λ k of i less. elim (cases_eq i c.loop-item.item) [
   | inr other ↦ c.loop-item.invariant k of i (omega (arith, less, other))
   | inl here ↦
       let within : c.loop-item.item < length (pricing_value c.args.pricing.now).prices = omega (arith, c.loop-item-test.true, c.len-item-end.ensures) in
-      let place : c.priced_at-priced.result.place ≡ priced_place (chip_of c.args.basis.now) (pricing_value c.args.pricing.now) c.loop-item.item = c.priced_at-priced.ensures.place ∙ c.requires.places c.loop-item.item within in
-      let price : c.priced_at-priced.result.price ≡ price_at (pricing_value c.args.pricing.now) c.loop-item.item = c.priced_at-priced.ensures.price in
+      let place = c.priced_at-priced.ensures.place ∙ c.requires.places c.loop-item.item within in
+      let price = c.priced_at-priced.ensures.price in
       let like = c.if-not-is_like_item.ensures refl k (pricing_value c.args.pricing.now) of refl c.requires.leaf.ready in
       subst (λ n. IsLikeItem c.args.basis.now k (pricing_value c.args.pricing.now) (priced_place (chip_of c.args.basis.now) (pricing_value c.args.pricing.now) n) (price_at (pricing_value c.args.pricing.now) n) c.args.bus.rank c.args.bus.width c.args.bus.rank c.args.before) (sym here)
       (subst (λ n. IsLikeItem c.args.basis.now k (pricing_value c.args.pricing.now) (priced_place (chip_of c.args.basis.now) (pricing_value c.args.pricing.now) c.loop-item.item) n c.args.bus.rank c.args.bus.width c.args.bus.rank c.args.before) price

@@ -7,4 +7,4 @@ pub returns-clause-long : goal.returns-clause-long
 returns-clause-long c = ap length c.clear_worths.ensures ∙ length-replicate (length c.args.kept.now.worths.items) None
 
 pub returns-clause-none : goal.returns-clause-none
-returns-clause-none c = λ w n at. none_kept c.clear_worths.new.worths.items (length c.args.kept.now.worths.items) w n c.clear_worths.ensures at
+returns-clause-none c = λ w n at. none_kept (length c.args.kept.now.worths.items) w c.clear_worths.ensures at

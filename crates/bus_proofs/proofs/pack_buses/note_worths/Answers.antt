@@ -1,5 +1,4 @@
-use Rattle.std.proofs.Common.{◌≡◌, ◌+◌, ◌^◌, ◌<◌, ◌≤◌, ℕ, length, refl, ap, subst, ◌∙◌, arith}
-use Rattle.std.specs.Prelude.{slice_index}
+use Rattle.std.proofs.Common.{◌≡◌, ◌+◌, ◌^◌, ◌<◌, ◌≤◌, ℕ, length, refl, ap, subst, ◌∙◌, arith, slice_index}
 use Rattle.std.proofs.lemmas.List.{length-set}
 use Rattle.proof_model.specs.Proofs.{pricing_value}
 use Rattle.bus_proofs.specs.Bases.{chip_of}
@@ -11,7 +10,7 @@ use Rattle.bus_proofs.proofs.pack_buses.note_worths.Goals as goal
 
 pub keep_for-requires-clause-places : goal.keep_for-requires-clause-places
 keep_for-requires-clause-places c = λ item less.
-    let within = item_within (chip_of c.args.basis.now) (pricing_value c.args.pricing.now) item c.requires.leaf.once (omega (arith, less, c.len-count.ensures)) in
+    let within = item_within (pricing_value c.args.pricing.now) item c.requires.leaf.once (omega (arith, less, c.len-count.ensures)) in
     let place = ap (λ l. slice_index l item) c.deref.ensures.value ∙ c.requires.room.bus.places item (omega (arith, less, c.len-count.ensures)) in
     omega (arith, within, place, c.requires.leaf.setting.of.modules)
 
@@ -22,7 +21,7 @@ loop-more-init c =
     let room = c.requires.room in
     record {
       room = record { bus = room.bus; wires = room.wires; worth = room.worth; kept = c.keep_for.ensures.long ∙ room.kept };
-      kept = like_kept c.args.basis.now c.args.case.now (pricing_value c.args.pricing.now) c.args.weighed.now c.deref.result.now c.args.room.now.kept c.keep_for.new.kept c.args.least.rank c.requires.leaf.ready places c.requires.kept
+      kept = like_kept c.args.case.now (pricing_value c.args.pricing.now) c.deref.result.now c.args.room.now.kept c.keep_for.new.kept c.requires.leaf.ready places c.requires.kept
           c.keep_for.ensures.rank
           (λ w n at. (let k = c.keep_for.ensures.kept w n at in
           (k.0, subst (λ m. IsLikeRank c.args.case.now c.args.weighed.now c.deref.result.now m c.args.room.now.kept.rank c.args.least.rank) count k.1)));
@@ -50,7 +49,7 @@ loop-more-preserved c =
       worths = λ k of. noted_more (λ d n. n ≡ bus_most c.args.basis.now k (pricing_value c.args.pricing.now) c.args.least.rank (c.args.least.width + d)) c.kept_worth.new.room.worth.items c.loop-more.more c.kept_worth.result within
           (λ d less. at d ∙ c.loop-more.invariant.worths k of d less) (c.kept_worth.ensures.worth k of);
       small = noted_more (λ d n. n ≤ 10 ^ 18) c.kept_worth.new.room.worth.items c.loop-more.more c.kept_worth.result within
-          (λ d less. (let e = at d in let s = c.loop-more.invariant.small d less in omega (arith, e, s))) c.kept_worth.ensures.small;
+          (λ d less. (omega (arith, at d, c.loop-more.invariant.small d less))) c.kept_worth.ensures.small;
       wires = c.kept_worth.ensures.wires ∙ c.loop-more.invariant.wires;
       work = c.kept_worth.ensures.work ∙ c.loop-more.invariant.work;
       places = c.kept_worth.ensures.places ∙ c.loop-more.invariant.places;

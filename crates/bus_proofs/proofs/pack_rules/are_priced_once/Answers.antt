@@ -1,7 +1,7 @@
 use Rattle.std.proofs.Common.{refl, arith}
 use Rattle.std.proofs.lemmas.List.{length-set}
 use Rattle.bus_proofs.specs.Bases.{chip_of}
-use Rattle.bus_proofs.proofs.PackRules.{all_new_prices, each_new_price, seen_more}
+use Rattle.bus_proofs.proofs.PackAnswers.{all_new_prices, each_new_price, seen_more}
 use Rattle.bus_proofs.proofs.pack_rules.are_priced_once.Goals as goal
 
 pub returns-in-None-clause-no : goal.returns-in-None-clause-no
@@ -10,7 +10,7 @@ returns-in-None-clause-no c = λ e are.
 
 pub loop-at-preserved : goal.loop-at-preserved
 loop-at-preserved c =
-    seen_more (chip_of c.args.basis.now) c.args.prices.now c.loop-at.at c.args.places.now c.loop-at.places _ c.in-Some.place c.loop-at.invariant (omega (arith, c.loop-at-test.true, c.requires.room))
+    seen_more (chip_of c.args.basis.now) c.args.prices.now _ c.loop-at.invariant (omega (arith, c.loop-at-test.true, c.requires.room))
     c.in-Some.ensures.some.0 c.in-Some.ensures.some.1 refl (length-set c.loop-at.places c.loop-at.at c.in-Some.place)
 
 pub returns-clause-yes : goal.returns-clause-yes

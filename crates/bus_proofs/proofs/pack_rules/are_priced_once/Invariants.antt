@@ -1,5 +1,5 @@
 use Rattle.bus_proofs.specs.Bases.{chip_of}
-use Rattle.bus_proofs.proofs.PackRules.{SeenTo}
+use Rattle.bus_proofs.proofs.PackAnswers.{SeenTo}
 use Rattle.bus_proofs.proofs.pack_rules.are_priced_once.Given as goal
 
 abbrev pub invariant-loop-at : goal.invariant-loop-at

@@ -1,5 +1,4 @@
-use Rattle.std.proofs.Common.{◌≡◌, ◌<◌, ℕ}
-use Rattle.std.specs.Prelude.{slice_index}
+use Rattle.std.proofs.Common.{◌≡◌, ◌<◌, ℕ, slice_index}
 use Rattle.bus_proofs.specs.PackLeaves.{numbers_priced}
 use Rattle.bus_proofs.proofs.pack_rules.is_priced.Given as goal
 

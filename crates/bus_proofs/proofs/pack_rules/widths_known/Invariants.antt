@@ -1,5 +1,4 @@
-use Rattle.std.proofs.Common.{◌≡◌, ◌≤◌, ◌*◌, take}
-use Rattle.std.specs.List.{sum_by}
+use Rattle.std.proofs.Common.{◌≡◌, ◌≤◌, ◌*◌, take, sum_by}
 use Rattle.bus_proofs.specs.PackLeaves.{width_count}
 use Rattle.bus_proofs.proofs.pack_rules.widths_known.Given as goal
 

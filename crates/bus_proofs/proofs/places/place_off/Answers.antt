@@ -20,9 +20,9 @@ returns-clause-placed c = λ e known has.
       known = c.requires.at.known;
       long = c.take_ranks.ensures.without.long ∙ c.requires.at.long;
     } in
-    placed_off_bits c.args.at.modules c.args.at.known c.args.at.place c.args.rank c.args.twins.now c.args.ranks.now.may.items c.take_rank.new.ranks.may.items e c.requires.at.place known
-    (without_first c.args.at.modules c.args.at.place c.args.rank c.args.at.known c.args.twins.now c.args.ranks.now.may.items c.take_ranks.new.ranks.may.items c.take_rank.new.ranks.may.items
-    c.requires.at.place (bit_within c.take_ranks.new.ranks.may.items c.args.at c.args.rank there c.requires.rank) c.take_ranks.ensures.without c.take_rank.ensures.may) has
+    placed_off_bits c.args.rank c.args.twins.now c.requires.at.place known
+    (without_first c.args.rank c.args.at.known c.args.twins.now
+    c.requires.at.place (bit_within c.args.rank there c.requires.rank) c.take_ranks.ensures.without c.take_rank.ensures.may) has
 
 pub returns-clause-after : goal.returns-clause-after
-returns-clause-after c = after_then c.args.ranks.now c.take_ranks.new.ranks c.take_rank.new.ranks c.take_ranks.ensures.after c.take_rank.ensures.after
+returns-clause-after c = after_then c.take_ranks.ensures.after c.take_rank.ensures.after

@@ -5,7 +5,7 @@ use Rattle.bus_proofs.proofs.Takings.{after_then}
 use Rattle.bus_proofs.proofs.places.place_on.Goals as goal
 
 pub take_away-requires-clause-at : goal.take_away-requires-clause-at
-take_away-requires-clause-at c = rest_within c.args.ranks.now.may.items c.args.at c.requires.at
+take_away-requires-clause-at c = rest_within c.requires.at
 
 pub take_others-requires-clause-at : goal.take_others-requires-clause-at
 take_others-requires-clause-at c = record {
@@ -17,8 +17,8 @@ take_others-requires-clause-at c = record {
 
 pub returns-clause-placed : goal.returns-clause-placed
 returns-clause-placed c = λ e known has.
-    placed_on_bits c.args.at.modules c.args.at.known c.args.at.place c.args.rank c.args.ranks.now.may.items c.take_away.new.ranks.may.items c.take_others.new.ranks.may.items e
-    c.requires.at.place (rest_within c.args.ranks.now.may.items c.args.at c.requires.at) known c.take_away.ensures.may c.take_others.ensures.without has
+    placed_on_bits c.args.rank
+    c.requires.at.place (rest_within c.requires.at) known c.take_away.ensures.may c.take_others.ensures.without has
 
 pub returns-clause-after : goal.returns-clause-after
-returns-clause-after c = after_then c.args.ranks.now c.take_away.new.ranks c.take_others.new.ranks c.take_away.ensures.after c.take_others.ensures.after
+returns-clause-after c = after_then c.take_away.ensures.after c.take_others.ensures.after

@@ -1,14 +1,13 @@
-use Rattle.bus_proofs.specs.Bits.{HasPlace}
 use Rattle.bus_proofs.proofs.Bits.{bit_within, others_more, place_still}
 use Rattle.bus_proofs.proofs.Takings.{after_then}
 use Rattle.bus_proofs.proofs.places.take_others.Goals as goal
 
 pub loop-rank-preserved : goal.loop-rank-preserved
 loop-rank-preserved c =
-    let there : HasPlace c.loop-rank.ranks.may.items c.args.at = place_still c.args.ranks.now.may.items c.loop-rank.ranks.may.items c.args.at c.requires.at c.loop-rank.invariant.without.long in
+    let there = place_still c.loop-rank.ranks.may.items c.requires.at c.loop-rank.invariant.without.long in
     record {
       space = c.take_other.ensures.space;
-      after = after_then c.args.ranks.now c.loop-rank.ranks c.take_other.new.ranks c.loop-rank.invariant.after c.take_other.ensures.after;
-      without = others_more c.args.at.modules c.args.at.place c.args.kept c.loop-rank.rank c.args.ranks.now.may.items c.loop-rank.ranks.may.items c.take_other.new.ranks.may.items
-          c.requires.at.place (bit_within c.loop-rank.ranks.may.items c.args.at c.loop-rank.rank there c.loop-rank-test.true) c.loop-rank.invariant.without c.take_other.ensures.taken c.take_other.ensures.kept;
+      after = after_then c.loop-rank.invariant.after c.take_other.ensures.after;
+      without = others_more c.args.kept c.loop-rank.rank c.take_other.new.ranks.may.items
+          c.requires.at.place (bit_within c.loop-rank.rank there c.loop-rank-test.true) c.loop-rank.invariant.without c.take_other.ensures.taken c.take_other.ensures.kept;
     }

@@ -1,5 +1,4 @@
-use Rattle.std.proofs.Common.{◌≡◌, [], replicate, true}
-use Rattle.std.specs.Prelude.{vec_capacity}
+use Rattle.std.proofs.Common.{◌≡◌, [], replicate, true, vec_capacity}
 use Rattle.bus_proofs.proofs.ranks.allow_all.Given as goal
 
 abbrev pub invariant-loop-module : goal.invariant-loop-module

@@ -1,5 +1,4 @@
-use Rattle.std.proofs.Common.{◌≡◌, ◌++◌, take}
-use Rattle.std.specs.Prelude.{vec_capacity}
+use Rattle.std.proofs.Common.{◌≡◌, ◌++◌, take, vec_capacity}
 use Rattle.bus_proofs.proofs.ranks.copy_rest.Given as goal
 
 abbrev pub invariant-loop-place : goal.invariant-loop-place

@@ -3,7 +3,7 @@ use Rattle.bus_proofs.proofs.Takings.{after_none, after_put, gone_already, space
 use Rattle.bus_proofs.proofs.ranks.take_away.Goals as goal
 
 pub note_taken-requires-clause-room : goal.note_taken-requires-clause-room
-note_taken-requires-clause-room c = space_to_note c.args.ranks.now c.args.at c.requires.space c.requires.at (sym c.is_left.ensures ∙ c.if-is_left.true)
+note_taken-requires-clause-room c = space_to_note c.args.at c.requires.space c.requires.at (sym c.is_left.ensures ∙ c.if-is_left.true)
 
 pub returns-then-is_left-clause-space : goal.returns-then-is_left-clause-space
 returns-then-is_left-clause-space c =

@@ -5,4 +5,4 @@ use Rattle.bus_proofs.proofs.ranks.undo_ranks.Goals as goal
 pub returns : goal.returns
 returns c = λ before n places space a.
     let back = c.undo_takings.ensures before n a in
-    restored before c.undo_takings.new.ranks _ back.after_it space back.long (c.truncate.ensures.items ∙ ap (λ k. take k c.undo_takings.new.ranks.may.items) (sym places)) refl refl c.truncate.ensures.capacity refl
+    restored _ back.after_it space back.long (c.truncate.ensures.items ∙ ap (λ k. take k c.undo_takings.new.ranks.may.items) (sym places)) refl refl c.truncate.ensures.capacity refl

@@ -1,4 +1,4 @@
-use Rattle.std.proofs.Common.{◌≡◌, ◌+◌, length, ap, ◌∙◌, arith}
+use Rattle.std.proofs.Common.{length, ap, ◌∙◌, arith}
 use Rattle.std.proofs.lemmas.List.{length-append}
 use Rattle.bus_proofs.proofs.ranks.undo_takings.Goals as goal
 
@@ -17,7 +17,7 @@ loop-step-preserved c = record {
 
 pub returns : goal.returns
 returns c = λ before n a.
-    let more : length c.args.ranks.now.trail.items ≡ length before.trail.items + length a.taken = ap length a.trail ∙ length-append before.trail.items a.taken in
+    let more = ap length a.trail ∙ length-append before.trail.items a.taken in
     let count = c.loop-step.invariant.count (omega (arith, n, more)) in
     let end = c.loop-step.auto.step-end (omega (arith, n, more, c.takings-count.ensures)) in
     record { after_it = c.loop-step.invariant.after before n a; long = omega (arith, n, count, end, c.loop-step-test.false, c.takings-count.ensures) }

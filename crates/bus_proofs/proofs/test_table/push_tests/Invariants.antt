@@ -1,5 +1,4 @@
-use Rattle.std.proofs.Common.{◌≡◌, Some, List, ◌++◌}
-use Rattle.std.specs.Prelude.{slice_get}
+use Rattle.std.proofs.Common.{◌≡◌, Some, List, ◌++◌, slice_get}
 use Rattle.soc_model.specs.Chips.{SocValue, LiveTest, module_value}
 use Rattle.bus_proofs.specs.TestTables.{AreTestsAt}
 use Rattle.bus_proofs.proofs.TestTables.{live_front}

@@ -1,24 +1,24 @@
 use Rattle.std.proofs.Common.{refl}
 use Rattle.bus_proofs.specs.Bases.{limits_of}
 use Rattle.bus_proofs.specs.Cases.{with_rank}
-use Rattle.bus_proofs.proofs.RoomSteps.{further_then, narrow_within, room_next}
+use Rattle.bus_proofs.proofs.Trails.{further_then, narrow_within, room_next}
 use Rattle.bus_proofs.proofs.WalkSteps.{wide_begun, wide_room}
 use Rattle.bus_proofs.proofs.walk.begin_wide.Goals as goal
 
 pub returns-clause-further : goal.returns-clause-further
-returns-clause-further c = further_then c.args.case.now c.is_wide.new.case c.narrow.new.self c.is_wide.ensures.further c.narrow.ensures.further
+returns-clause-further c = further_then c.is_wide.ensures.further c.narrow.ensures.further
 
 pub returns-clause-room : goal.returns-clause-room
 returns-clause-room c = λ t.
     let e = c.requires.known.0 in
     let now = c.if-not-is_wide.ensures.yes refl c.requires.known.0 c.requires.known.1 in
-    room_next c.args.basis.now c.is_wide.new.case c.narrow.new.self (with_rank c.args.case.now.widths.wires c.requires.known.0 c.args.rank) _
-    (wide_room c.args.basis.now c.args.case.now c.is_wide.new.case c.requires.known.0 c.args.rank c.args.width c.requires.room c.is_wide.ensures.room c.is_wide.ensures.further c.requires.known.1 now)
+    room_next
+    (wide_room c.requires.room c.is_wide.ensures.room c.is_wide.ensures.further c.requires.known.1 now)
     c.narrow.ensures.room c.narrow.ensures.further now.case (c.narrow.ensures.case _ now.case)
     (narrow_within (limits_of c.args.basis.now).wires c.args.rank c.args.width (with_rank c.args.case.now.widths.wires c.requires.known.0 c.args.rank))
 
 pub returns-clause-begun : goal.returns-clause-begun
 returns-clause-begun c = λ t root e from is.
-    wide_begun c.args.basis.now root c.args.turns.now c.note_turn.new.turns c.args.at.depth c.args.at.node c.args.case.now c.is_wide.new.case c.narrow.new.self e c.args.rank c.args.width c.mark-mark.result
+    wide_begun c.args.turns.now c.args.at.depth c.args.at.node
     from is c.requires.room c.requires.depth c.note_turn.ensures c.mark-mark.ensures c.is_wide.ensures.room c.is_wide.ensures.further
     (c.if-not-is_wide.ensures.yes refl e is) c.requires.node c.narrow.ensures.further c.narrow.ensures.case

@@ -15,4 +15,4 @@ returns-clause-judged c = λ e is.
 
 pub returns-clause-leaves : goal.returns-clause-leaves
 returns-clause-leaves c =
-    fits_after c.args.basis.now c.args.leaf.now c.check_leaf-answer.new.room c.requires.leaves c.check_leaf-answer.ensures.space (ap (λ p. length p.bus.places.items) c.check_leaf-answer.ensures.pack)
+    fits_after c.args.leaf.now c.requires.leaves c.check_leaf-answer.ensures.space (ap (λ p. length p.bus.places.items) c.check_leaf-answer.ensures.pack)

@@ -18,4 +18,4 @@ returns-clause-judged c = λ e is.
 
 pub returns-clause-leaves : goal.returns-clause-leaves
 returns-clause-leaves c =
-    fits_after c.args.basis.now c.args.leaf.now c.check_pack-answer.new.room c.requires.leaves c.check_pack-answer.ensures.space c.check_pack-answer.ensures.long
+    fits_after c.args.leaf.now c.requires.leaves c.check_pack-answer.ensures.space c.check_pack-answer.ensures.long

@@ -18,7 +18,7 @@ returns-then-not-turns-depth-clause-further c = λ root left f h.
 
 pub returns-then-not-turns-depth-clause-goes_on : goal.returns-then-not-turns-depth-clause-goes_on
 returns-then-not-turns-depth-clause-goes_on c = λ root left f h.
-    inr (second_goes c.args.basis.now root c.loop-depth.turns c.begin_second.new.turns c.loop-depth.depth (c.loop-depth.depth - 1) c.loop-depth.case c.begin_second.new.case left
+    inr (second_goes c.args.basis.now root c.loop-depth.turns c.loop-depth.depth (c.loop-depth.depth - 1) c.loop-depth.case c.begin_second.new.case left
     (omega (arith, c.loop-depth-test.true)) (omega (arith, c.loop-depth-test.true, c.loop-depth.auto.turns, c.loop-depth.invariant.few, c.requires.turns))
     c.if-not-turns-depth.true c.begin_second.ensures.turns
     (λ before e split t. c.begin_second.ensures.second root before e split t) (c.loop-depth.invariant.awaits root left f h))

@@ -1,5 +1,4 @@
-use Rattle.std.proofs.Common.{◌≤◌}
-use Rattle.std.specs.Prelude.{List}
+use Rattle.std.proofs.Common.{◌≤◌, List}
 use Rattle.bus_proofs.specs.declared.case.CaseRoom.{CaseRoom}
 use Rattle.bus_proofs.specs.Cases.{NodeCase}
 use Rattle.bus_proofs.specs.CaseRooms.{IsFurther}

@@ -1,7 +1,6 @@
-use Rattle.std.proofs.Common.{◌≡◌, suc, ◌+◌, ◌<◌, length, refl, sym, ap, ◌∙◌, arith}
-use Rattle.std.specs.Prelude.{slice_set}
+use Rattle.std.proofs.Common.{◌≡◌, suc, ◌+◌, ◌<◌, length, refl, sym, ap, ◌∙◌, arith, slice_set}
 use Rattle.std.proofs.lemmas.List.{length-set}
-use Rattle.bus_proofs.specs.Cases.{interval_of, at_most}
+use Rattle.bus_proofs.specs.Cases.{at_most}
 use Rattle.bus_proofs.proofs.Trails.{later_none, later_then, most_part, map_next, map_all}
 use Rattle.bus_proofs.proofs.widths.narrow_ranks.Goals as goal
 
@@ -13,20 +12,20 @@ interval_at-old-requires c = omega (arith, c.loop-rank-test.true, c.known_ranks-
 
 pub narrow_rank-requires-clause-within : goal.narrow_rank-requires-clause-within
 narrow_rank-requires-clause-within c =
-    most_part c.loop-rank.widths.intervals.items c.loop-rank.rank c.args.width c.interval_at-old.result c.at_most-next.result c.loop-rank.invariant.roomy.few
+    most_part c.loop-rank.widths.intervals.items c.loop-rank.rank c.args.width c.loop-rank.invariant.roomy.few
     (omega (arith, c.loop-rank-test.true, c.known_ranks-count.ensures, c.loop-rank.invariant.long)) c.interval_at-old.ensures c.at_most-next.ensures
 
 pub loop-rank-preserved : goal.loop-rank-preserved
 loop-rank-preserved c =
     let within : c.loop-rank.rank < length c.loop-rank.widths.intervals.items = omega (arith, c.loop-rank-test.true, c.known_ranks-count.ensures, c.loop-rank.invariant.long) in
     let next : c.loop-rank.rank + 1 ≡ suc c.loop-rank.rank = omega arith in
-    let is : c.narrow_rank.new.widths.intervals.items ≡ slice_set c.loop-rank.widths.intervals.items c.loop-rank.rank (at_most c.args.width (interval_of c.loop-rank.widths.intervals.items c.loop-rank.rank)) =
+    let is =
     c.narrow_rank.ensures.intervals ∙ ap (slice_set c.loop-rank.widths.intervals.items c.loop-rank.rank) (c.at_most-next.ensures ∙ ap (at_most c.args.width) c.interval_at-old.ensures) in
     record {
       roomy = c.narrow_rank.ensures.roomy;
-      later = later_then c.args.widths.now c.loop-rank.widths c.narrow_rank.new.widths c.loop-rank.invariant.later c.narrow_rank.ensures.later;
+      later = later_then c.loop-rank.invariant.later c.narrow_rank.ensures.later;
       long = ap length c.narrow_rank.ensures.intervals ∙ length-set c.loop-rank.widths.intervals.items c.loop-rank.rank c.at_most-next.result ∙ c.loop-rank.invariant.long;
-      done = map_next (at_most c.args.width) c.loop-rank.widths.intervals.items c.narrow_rank.new.widths.intervals.items c.loop-rank.rank (c.loop-rank.rank + 1) within next is
+      done = map_next (at_most c.args.width) c.loop-rank.widths.intervals.items within next is
           ∙ c.loop-rank.invariant.done;
     }
 

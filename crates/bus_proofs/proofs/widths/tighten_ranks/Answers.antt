@@ -1,7 +1,6 @@
-use Rattle.std.proofs.Common.{◌≡◌, ℕ, suc, ◌+◌, ◌<◌, length, refl, sym, ap, ◌∙◌, arith}
-use Rattle.std.specs.Prelude.{slice_set}
+use Rattle.std.proofs.Common.{◌≡◌, suc, ◌+◌, ◌<◌, length, refl, sym, ap, ◌∙◌, arith, slice_set}
 use Rattle.std.proofs.lemmas.List.{length-set}
-use Rattle.bus_proofs.specs.Cases.{interval_of, tightened_by}
+use Rattle.bus_proofs.specs.Cases.{tightened_by}
 use Rattle.bus_proofs.specs.Trails.{tight}
 use Rattle.bus_proofs.proofs.Trails.{few_at, later_none, later_then, tight_part, tight_next, tight_all, tight_first}
 use Rattle.bus_proofs.proofs.widths.tighten_ranks.Goals as goal
@@ -21,7 +20,7 @@ tight-next-requires-clause-more c = omega (arith, c.spare_wires-more.ensures, c.
 
 pub narrow_rank-requires-clause-within : goal.narrow_rank-requires-clause-within
 narrow_rank-requires-clause-within c =
-    tight_part c.loop-rank.widths.intervals.items c.loop-rank.rank c.spare_wires-more.result c.loop-rank.above c.interval_at-old.result c.tight-next.result c.loop-rank.invariant.roomy.few
+    tight_part c.loop-rank.widths.intervals.items c.loop-rank.rank c.spare_wires-more.result c.loop-rank.above c.loop-rank.invariant.roomy.few
     (omega (arith, c.loop-rank-test.true, c.known_ranks-count.ensures, c.loop-rank.invariant.long)) c.interval_at-old.ensures c.tight-next.ensures
 
 pub loop-rank-preserved : goal.loop-rank-preserved
@@ -29,15 +28,13 @@ loop-rank-preserved c =
     let xs = c.loop-rank.widths.intervals.items in
     let within : c.loop-rank.rank < length c.loop-rank.widths.intervals.items = omega (arith, c.loop-rank-test.true, c.known_ranks-count.ensures, c.loop-rank.invariant.long) in
     let next : c.loop-rank.rank + 1 ≡ suc c.loop-rank.rank = omega arith in
-    let this : c.tight-next.result ≡ tight c.spare_wires-more.result c.loop-rank.above (interval_of c.loop-rank.widths.intervals.items c.loop-rank.rank) =
-    c.tight-next.ensures ∙ ap (tight c.spare_wires-more.result c.loop-rank.above) c.interval_at-old.ensures in
-    let is : c.narrow_rank.new.widths.intervals.items ≡ slice_set c.loop-rank.widths.intervals.items c.loop-rank.rank (tight c.spare_wires-more.result c.loop-rank.above (interval_of c.loop-rank.widths.intervals.items c.loop-rank.rank)) =
-    c.narrow_rank.ensures.intervals ∙ ap (slice_set c.loop-rank.widths.intervals.items c.loop-rank.rank) this in
+    let this = c.tight-next.ensures ∙ ap (tight c.spare_wires-more.result c.loop-rank.above) c.interval_at-old.ensures in
+    let is = c.narrow_rank.ensures.intervals ∙ ap (slice_set c.loop-rank.widths.intervals.items c.loop-rank.rank) this in
     record {
       roomy = c.narrow_rank.ensures.roomy;
-      later = later_then c.args.widths.now c.loop-rank.widths c.narrow_rank.new.widths c.loop-rank.invariant.later c.narrow_rank.ensures.later;
+      later = later_then c.loop-rank.invariant.later c.narrow_rank.ensures.later;
       long = ap length c.narrow_rank.ensures.intervals ∙ length-set c.loop-rank.widths.intervals.items c.loop-rank.rank c.tight-next.result ∙ c.loop-rank.invariant.long;
-      done = tight_next c.spare_wires-more.result c.loop-rank.above c.tight-next.result.high xs c.narrow_rank.new.widths.intervals.items c.loop-rank.rank (c.loop-rank.rank + 1) within next is (ap (λ i. i.high) this)
+      done = tight_next c.spare_wires-more.result c.loop-rank.above xs within next is (ap (λ i. i.high) this)
           ∙ c.loop-rank.invariant.done;
     }
 
@@ -45,4 +42,4 @@ pub returns-clause-intervals : goal.returns-clause-intervals
 returns-clause-intervals c =
     sym (tight_all c.spare_wires-more.result c.loop-rank.above c.loop-rank.widths.intervals.items c.loop-rank.rank (omega (arith, c.loop-rank-test.false, c.known_ranks-count.ensures, c.loop-rank.invariant.long)))
     ∙ c.loop-rank.invariant.done ∙ tight_first c.spare_wires-more.result c.args.widths.now.intervals.items c.requires.roomy.few
-    ∙ ap (λ (more : ℕ). tightened_by more c.args.widths.now.intervals.items) c.spare_wires-more.ensures
+    ∙ ap (λ more. tightened_by more c.args.widths.now.intervals.items) c.spare_wires-more.ensures

@@ -1,4 +1,4 @@
-use Rattle.std.proofs.Common.{◌≡◌, ◌+◌, length, ap, ◌∙◌, arith}
+use Rattle.std.proofs.Common.{length, ap, ◌∙◌, arith}
 use Rattle.std.proofs.lemmas.List.{length-append}
 use Rattle.bus_proofs.proofs.Trails.{back_here}
 use Rattle.bus_proofs.proofs.widths.undo_changes.Goals as goal
@@ -18,7 +18,7 @@ loop-step-preserved c = record {
 
 pub returns : goal.returns
 returns c = λ before n roomy l.
-    let more : length c.args.widths.now.trail.items ≡ length before.trail.items + length l.changes = ap length l.trail ∙ length-append before.trail.items l.changes in
+    let more = ap length l.trail ∙ length-append before.trail.items l.changes in
     let count = c.loop-step.invariant.count (omega (arith, n, more)) in
     let end = c.loop-step.auto.step-end (omega (arith, n, more, c.changes-count.ensures)) in
-    back_here before c.loop-step.widths (c.loop-step.invariant.later before n l) roomy (omega (arith, n, count, end, c.loop-step-test.false, c.changes-count.ensures))
+    back_here (c.loop-step.invariant.later before n l) roomy (omega (arith, n, count, end, c.loop-step-test.false, c.changes-count.ensures))

@@ -1,9 +1,8 @@
-use Rattle.std.proofs.Common.{◌∙◌, ap}
-use Rattle.std.specs.Prelude.{◌&&◌, codes}
+use Rattle.std.proofs.Common.{◌∙◌, ap, ◌&&◌, codes}
 use Rattle.commands.specs.Texts.{no_feed, spaced_test}
 use Rattle.commands.proofs.LineFacts.{flat_more}
-use Rattle.commands.proofs.lines.push_tests.Goals as goal
 use Rattle.common_lemmas.proofs.Lists.{joined_before}
+use Rattle.commands.proofs.lines.push_tests.Goals as goal
 
 pub loop-test-preserved : goal.loop-test-preserved
 loop-test-preserved c = (

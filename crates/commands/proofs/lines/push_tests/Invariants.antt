@@ -1,6 +1,4 @@
-use Rattle.std.proofs.Common.{◌≡◌, ◌++◌, take}
-use Rattle.std.specs.Prelude.{IsTrue}
-use Rattle.std.specs.List.{flat_map}
+use Rattle.std.proofs.Common.{◌≡◌, ◌++◌, take, IsTrue, flat_map}
 use Rattle.commands.specs.Texts.{no_feed, spaced_test}
 use Rattle.commands.proofs.lines.push_tests.Given as goal
 

@@ -13,10 +13,10 @@ returns-in_err-bytes-clause-loads g c =
 pub returns-in-Ok-clause-loads : goal.returns-in-Ok-clause-loads
 returns-in-Ok-clause-loads g c =
     let read = rw c.as_slice.ensures.value at c.in-Ok.ensures in
-    plan_checked _ _ _ c.in_ok-bytes.bytes.items _ _ _ (plan_value c.in-Ok.plan) _ c.in_ok-bytes.ensures.loads.0 c.in_ok-bytes.ensures.loads.1 read.said c.checked.ensures
+    plan_checked _ _ _ c.in_ok-bytes.bytes.items _ _ _ (plan_value c.in-Ok.plan) _ c.in_ok-bytes.ensures.loads.0 c.in_ok-bytes.ensures.loads.1 read.said c.accepted_plan.ensures
 
 pub returns-in-Ok-clause-accepted : goal.returns-in-Ok-clause-accepted
-returns-in-Ok-clause-accepted g c = handed_on _ _ (plan_value c.in-Ok.plan) _ c.checked.ensures
+returns-in-Ok-clause-accepted g c = handed_on _ _ (plan_value c.in-Ok.plan) _ c.accepted_plan.ensures
 
 pub returns-clause-loads : goal.returns-clause-loads
 returns-clause-loads g c =
@@ -31,7 +31,7 @@ returns-in_err-bytes-clause-by_loads g c =
 pub returns-in-Ok-clause-by_loads : goal.returns-in-Ok-clause-by_loads
 returns-in-Ok-clause-by_loads g c =
     let read = rw c.as_slice.ensures.value at c.in-Ok.ensures in
-    plan_load_checked g.H.Shelf.is_load _ _ _ c.in_ok-bytes.bytes.items _ _ (plan_value c.in-Ok.plan) _ c.in_ok-bytes.ensures.by_loads read.said c.checked.ensures
+    plan_load_checked g.H.Shelf.is_load _ _ _ c.in_ok-bytes.bytes.items _ _ (plan_value c.in-Ok.plan) _ c.in_ok-bytes.ensures.by_loads read.said c.accepted_plan.ensures
 
 pub returns-clause-by_loads : goal.returns-clause-by_loads
 returns-clause-by_loads g c =

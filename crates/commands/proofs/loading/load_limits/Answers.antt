@@ -12,7 +12,7 @@ returns-in_err-bytes-clause-loads g c =
 
 pub returns-clause-loads : goal.returns-clause-loads
 returns-clause-loads g c =
-    let why = subst (λ bytes. LimitsRead bytes (soc_value c.args.soc.now) (Err c.in-Err.fault)) c.as_slice.ensures.value c.in-Err.ensures.read in
+    let why = subst (λ bytes. LimitsRead bytes (soc_value c.args.soc.now) (Err c.in-Err.fault)) c.as_slice.ensures.value c.in-Err.ensures.refused in
     limits_refused _ _ c.in_ok-bytes.bytes.items _ _ _ c.in-Err.fault _ c.in_ok-bytes.ensures.loads.0 c.in_ok-bytes.ensures.loads.1 why c.refused_limits.ensures
 
 pub returns-in_err-bytes-clause-by_loads : goal.returns-in_err-bytes-clause-by_loads
@@ -22,10 +22,10 @@ returns-in_err-bytes-clause-by_loads g c =
 
 pub returns-in-Ok-clause-by_loads : goal.returns-in-Ok-clause-by_loads
 returns-in-Ok-clause-by_loads g c =
-    let says = subst (λ bytes. LimitsRead bytes (soc_value c.args.soc.now) (Ok c.in-Ok.limits)) c.as_slice.ensures.value c.in-Ok.ensures.read in
+    let says = subst (λ bytes. LimitsRead bytes (soc_value c.args.soc.now) (Ok c.in-Ok.bounds.limits)) c.as_slice.ensures.value c.in-Ok.ensures.read in
     record { bytes = c.in_ok-bytes.bytes.items; load = c.in_ok-bytes.ensures.by_loads; says = says }
 
 pub returns-clause-by_loads : goal.returns-clause-by_loads
 returns-clause-by_loads g c =
-    let why = subst (λ bytes. LimitsRead bytes (soc_value c.args.soc.now) (Err c.in-Err.fault)) c.as_slice.ensures.value c.in-Err.ensures.read in
+    let why = subst (λ bytes. LimitsRead bytes (soc_value c.args.soc.now) (Err c.in-Err.fault)) c.as_slice.ensures.value c.in-Err.ensures.refused in
     limits_load_refused g.H.Shelf.is_load _ _ c.in_ok-bytes.bytes.items _ _ c.in-Err.fault _ c.in_ok-bytes.ensures.by_loads why c.refused_limits.ensures

@@ -1,5 +1,4 @@
-use Rattle.std.proofs.Common.{map}
-use Rattle.std.specs.Prelude.{string_bytes}
+use Rattle.std.proofs.Common.{map, string_bytes}
 use Rattle.commands.specs.Commands.{command_of}
 use Rattle.commands.proofs.WordLaws.{in_range}
 use Rattle.commands.proofs.words.command_of.Goals as goal

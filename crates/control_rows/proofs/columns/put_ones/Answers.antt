@@ -5,4 +5,4 @@ use Rattle.control_rows.proofs.columns.put_ones.Goals as goal
 pub loop-below-preserved : goal.loop-below-preserved
 loop-below-preserved c =
     let there = place-lt (c.args.row + c.loop-below.below) (c.args.row + c.args.count) c.args.columns c.args.column (length c.args.text.now) (omega (arith, c.loop-below-test.true)) c.requires.column c.requires.rows in
-    ones_more c.args.columns c.args.row c.args.column c.loop-below.below c.args.text.now c.loop-below.text c.requires.column (omega (arith, there, c.loop-below.invariant.long)) c.loop-below.invariant
+    ones_more c.args.column c.requires.column (omega (arith, there, c.loop-below.invariant.long)) c.loop-below.invariant

@@ -4,7 +4,7 @@ use Rattle.control_rows.proofs.columns.put_operations.Goals as goal
 use Rattle.common_lemmas.proofs.Numbers.{block_fits}
 
 pub loop-cycle-init : goal.loop-cycle-init
-loop-cycle-init c = put_to_start c.args.own c.args.test.now c.args.columns c.args.from c.args.count c.max-cycle.result c.args.text.now c.max-cycle.ensures
+loop-cycle-init c = put_to_start c.args.own c.args.test.now c.args.columns c.args.from c.args.count c.args.text.now c.max-cycle.ensures
 
 pub overflow_sub-cycle : goal.overflow_sub-cycle
 overflow_sub-cycle c = c.loop-cycle.invariant.begun
@@ -27,8 +27,7 @@ put_action-requires-clause-rows c =
 
 pub loop-cycle-preserved : goal.loop-cycle-preserved
 loop-cycle-preserved c =
-    spell_more c.args.own c.args.test.now c.args.columns c.args.from c.args.count c.loop-cycle.cycle c.min-going.result c.min-end.result c.spell_at-spell.result c.args.text.now c.loop-cycle.text c.put_action.new.text
-    c.requires.test c.min-end.ensures (omega (arith, c.min-going.ensures, c.loop-cycle-test.true)) (omega (arith, c.min-going.ensures)) c.spell_at-spell.ensures.goes_on c.put_action.ensures c.loop-cycle.invariant
+    spell_more c.requires.test c.loop-cycle.invariant c.min-end.ensures (omega (arith, c.min-going.ensures, c.loop-cycle-test.true)) (omega (arith, c.min-going.ensures)) c.spell_at-spell.ensures.goes_on c.put_action.ensures
 
 pub returns : goal.returns
-returns c = put_to_end c.args.own c.args.test.now c.args.columns c.args.from c.args.count c.loop-cycle.cycle c.args.text.now c.loop-cycle.text c.requires.test (omega (arith, c.min-end.ensures, c.loop-cycle-test.false)) c.loop-cycle.invariant
+returns c = put_to_end c.requires.test c.loop-cycle.invariant (omega (arith, c.min-end.ensures, c.loop-cycle-test.false))

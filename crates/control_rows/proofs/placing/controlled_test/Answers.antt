@@ -6,10 +6,13 @@ use Rattle.control_rows.proofs.placing.controlled_test.Goals as goal
 
 pub phases_of-requires : goal.phases_of-requires
 phases_of-requires c =
-    let plan = c.args.chip.now.index.now in
-    (plan, wrapped_test (soc_value c.args.chip.now.soc.now) plan c.requires.sound (c.requires.good Wrappers).1 c.args.place c.requires.test_there.0 (module_value c.args.«module».now) c.args.test.now c.args.wrappers.now c.requires.module_there c.requires.test_there.1 c.requires.live c.requires.wrappers)
+    let plan = c.args.chip.now.index.now in (
+      plan,
+      wrapped_test (soc_value c.args.chip.now.soc.now) plan c.requires.sound (c.requires.good Wrappers).1 c.args.place c.requires.test_there.0
+          (module_value c.args.«module».now) c.args.test.now c.args.wrappers.now c.requires.module_there c.requires.test_there.1 c.requires.live c.requires.wrappers,
+    )
 
 pub returns : goal.returns
 returns c =
     let plan = c.args.chip.now.index.now in
-    test_is plan c.args.place c.args.before (module_value c.args.«module».now) c.args.test.now c.test-placed.result c.phases_of.result c.test-placed.ensures (c.phases_of.ensures plan c.requires.wrappers)
+    test_is plan c.args.place c.args.before (module_value c.args.«module».now) c.args.test.now c.test-placed.ensures (c.phases_of.ensures plan c.requires.wrappers)

@@ -9,4 +9,4 @@ pub returns-then-not-test : goal.returns-then-not-test
 returns-then-not-test c = λ plan are. no_phases plan (module_value c.args.«module».now) c.args.test.now c.if-not-test.true
 
 pub returns : goal.returns
-returns c = λ plan are. long_phases plan (module_value c.args.«module».now) c.args.test.now c.in-Some.long c.if-not-test.false (c.in-Some.ensures plan (module_value c.args.«module».now) are)
+returns c = λ plan are. long_phases plan (module_value c.args.«module».now) c.args.test.now c.if-not-test.false (c.in-Some.ensures plan (module_value c.args.«module».now) are)

@@ -9,4 +9,5 @@ pub controlled_tests-tests-requires-clause-good : goal.controlled_tests-tests-re
 controlled_tests-tests-requires-clause-good c = subst (λ (plan : PlanValue). IsGoodAlone (soc_value c.args.soc.now) plan) (sym c.in_ok-index.ensures) c.requires.good
 
 pub returns : goal.returns
-returns c = subst (λ (plan : PlanValue). IfOk c.controlled_tests-tests.result (λ tests. tests.items ≡ map (controlled_live (soc_value c.args.soc.now) plan) (live_tests (soc_value c.args.soc.now)))) c.in_ok-index.ensures c.controlled_tests-tests.ensures
+returns c = subst (λ (plan : PlanValue). IfOk c.controlled_tests-tests.result (λ tests. tests.items ≡ map (controlled_live (soc_value c.args.soc.now) plan)
+    (live_tests (soc_value c.args.soc.now)))) c.in_ok-index.ensures c.controlled_tests-tests.ensures

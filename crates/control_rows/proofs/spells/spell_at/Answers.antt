@@ -6,4 +6,4 @@ pub returns-then-cycle-phases-clause-goes_on : goal.returns-then-cycle-phases-cl
 returns-then-cycle-phases-clause-goes_on c = goes_on_resting c.args.phases.now c.args.cycle (omega arith)
 
 pub returns-then-shifted-phases-clause-goes_on : goal.returns-then-shifted-phases-clause-goes_on
-returns-then-shifted-phases-clause-goes_on c = goes_on_loading c.args.phases.now c.args.cycle c.requires.phases.some (omega arith) (omega arith)
+returns-then-shifted-phases-clause-goes_on c = goes_on_loading c.args.phases.now c.requires.phases.some c.args.cycle (omega arith) (omega arith)

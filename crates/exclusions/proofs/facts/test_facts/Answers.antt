@@ -14,4 +14,4 @@ least_at-least-requires c =
 pub returns : goal.returns
 returns c =
     let id : TestId = record { «module» = c.args.number; test = c.args.test.now.number } in
-    facts_are (limits_value c.args.limits.now) c.args.place c.args.parent c.args.number c.args.test.now c.least_at-least.result (c.least_at-least.ensures id (c.profile_place-found.ensures ∙ ap (position (λ (p : Profile). same_test p.test id)) c.deref.ensures.value))
+    rw (← c.problem.view_is) (facts_are (limits_value c.problem.inside.limits.now) c.args.place c.args.parent c.args.number c.args.test.now c.least_at-least.result (c.least_at-least.ensures id (c.profile_place-found.ensures ∙ ap (position (λ (p : Profile). same_test p.test id)) c.deref.ensures.value)))

@@ -1,5 +1,4 @@
-use Rattle.std.proofs.Common.{◌^◌, ◌<◌, List, length, take, ap, sym, subst, ◌∙◌, arith}
-use Rattle.std.specs.List.{All, sum_by}
+use Rattle.std.proofs.Common.{◌^◌, ◌<◌, List, length, take, ap, sym, subst, ◌∙◌, arith, All, sum_by}
 use Rattle.std.proofs.lemmas.List.Sums.{sum_by_more_le}
 use Rattle.soc_model.specs.Chips.{module_value}
 use Rattle.plan_model.specs.declared.ChainPlan.{ChainPlan}

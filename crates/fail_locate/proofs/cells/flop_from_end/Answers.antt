@@ -1,6 +1,4 @@
-use Rattle.std.proofs.Common.{◌≡◌, ℕ, ◌-◌, length, get_or, reverse, refl, ap, subst, arith}
-use Rattle.std.specs.Prelude.{slice_get}
-use Rattle.std.specs.List.{flat_map}
+use Rattle.std.proofs.Common.{◌≡◌, ℕ, ◌-◌, length, get_or, reverse, refl, ap, subst, arith, slice_get, flat_map}
 use Rattle.std.proofs.lemmas.List.{take_all}
 use Rattle.plan_model.specs.Cells.{flops}
 use Rattle.fail_locate.proofs.EndCells.{turned, flop_here, flop_before}

@@ -1,6 +1,4 @@
-use Rattle.std.proofs.Common.{◌≡◌, ◌≤◌, length, reverse}
-use Rattle.std.specs.Prelude.{slice_get}
-use Rattle.std.specs.List.{flat_map}
+use Rattle.std.proofs.Common.{◌≡◌, ◌≤◌, length, reverse, slice_get, flat_map}
 use Rattle.plan_model.specs.Cells.{flops}
 use Rattle.fail_locate.proofs.EndCells.{turned}
 use Rattle.fail_locate.proofs.cells.flop_from_end.Given as goal

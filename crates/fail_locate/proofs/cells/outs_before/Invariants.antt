@@ -1,5 +1,4 @@
-use Rattle.std.proofs.Common.{◌≡◌, take}
-use Rattle.std.specs.List.{sum_by}
+use Rattle.std.proofs.Common.{◌≡◌, take, sum_by}
 use Rattle.plan_model.specs.declared.ChainPlan.{ChainPlan}
 use Rattle.fail_locate.proofs.cells.outs_before.Given as goal
 

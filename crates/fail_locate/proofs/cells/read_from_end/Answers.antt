@@ -1,6 +1,4 @@
-use Rattle.std.proofs.Common.{refl, reverse, ap, ◌∙◌, ◌-◌, arith}
-use Rattle.std.specs.Prelude.{slice_get}
-use Rattle.std.specs.List.{flat_map}
+use Rattle.std.proofs.Common.{refl, reverse, ap, ◌∙◌, ◌-◌, arith, slice_get, flat_map}
 use Rattle.plan_model.specs.Cells.{flops}
 use Rattle.fail_locate.proofs.EndCells.{out_here, flop_there}
 use Rattle.fail_locate.proofs.cells.read_from_end.Goals as goal

@@ -1,5 +1,5 @@
 use Rattle.limits_text.specs.Items.{gives_amount}
-use Rattle.limits_text.proofs.Lists.{some_done}
+use Rattle.limits_text.proofs.WordFacts.{some_done}
 use Rattle.limits_text.proofs.collect.has_amount.Goals as goal
 
 pub returns : goal.returns

@@ -1,5 +1,4 @@
-use Rattle.std.proofs.Common.{◌≡◌, ℕ, ◌-◌, ◌<◌, length}
-use Rattle.std.specs.Prelude.{slice_get}
+use Rattle.std.proofs.Common.{◌≡◌, ℕ, ◌-◌, ◌<◌, length, slice_get}
 use Rattle.limits_text.proofs.graph.back_to.Given as goal
 
 abbrev pub invariant-loop-back : goal.invariant-loop-back

@@ -8,7 +8,7 @@ returns-in_default c =
     let order = c.as_slice.ensures.value in
     let marks = c.in_ok-gone.ensures.marks in
     let m : Marked c.args.count c.in_ok-order.order.items c.in_ok-gone.gone.items = record { long = c.in_ok-gone.ensures.long; marks = rw order at marks } in
-    all_ranked c.args.pairs.now c.args.count c.in_ok-order.order.items c.in_ok-gone.gone.items c.requires c.in_ok-order.ensures m
+    all_ranked c.in_ok-order.ensures m c.requires
     (ap (position not) (sym c.as_slice-2.ensures.value) ∙ sym c.first_left.ensures ∙ c.in_default.is)
 
 pub returns : goal.returns
@@ -17,7 +17,7 @@ returns c =
     let marks = c.in_ok-gone.ensures.marks in
     let m : Marked c.args.count c.in_ok-order.order.items c.in_ok-gone.gone.items = record { long = c.in_ok-gone.ensures.long; marks = rw order at marks } in
     let gone = c.as_slice-3.ensures.value in
-    loop_found c.args.pairs.now c.args.count c.in_ok-order.order.items c.in_ok-gone.gone.items c.requires c.in_ok-order.ensures m c.in_ok-least.least.items c.in-Some.start c.in_ok-walk.walk.items c.in_ok-walk.meets c.in_ok-circle.circle.items
+    loop_found c.in_ok-order.ensures m c.requires c.in_ok-least.least.items c.in-Some.start c.in_ok-walk.walk.items c.in_ok-walk.meets c.in_ok-circle.circle.items
     (ap (position not) (sym c.as_slice-2.ensures.value) ∙ sym c.first_left.ensures ∙ c.in-Some.is)
     (c.in_ok-least.ensures.long ∙ ap length gone)
     (subst (λ (g : List Bool). Counts c.in_ok-least.least.items (least_before g (length g - 1) c.args.pairs.now)) gone c.in_ok-least.ensures.least)

@@ -1,4 +1,4 @@
-use Rattle.limits_text.proofs.EachText.{each_text}
+use Rattle.limits_text.proofs.OneAnswer.{each_text}
 use Rattle.limits_text.proofs.laws.each_text_has_an_answer.Goals as goal
 
 pub returns : goal.returns

@@ -1,4 +1,4 @@
-use Rattle.limits_text.proofs.RoundLoops.{goes_round}
+use Rattle.limits_text.proofs.OneLoop.{goes_round}
 use Rattle.limits_text.proofs.laws.loops_go_round.Goals as goal
 
 pub returns : goal.returns

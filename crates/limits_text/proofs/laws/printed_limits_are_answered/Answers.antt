@@ -1,4 +1,4 @@
-use Rattle.limits_text.proofs.PrintedAnswers.{printed_answered}
+use Rattle.limits_text.proofs.PrintedTexts.{printed_answered}
 use Rattle.limits_text.proofs.laws.printed_limits_are_answered.Goals as goal
 
 pub returns : goal.returns

@@ -1,4 +1,4 @@
-use Rattle.limits_text.proofs.PrintedAnswers.{printed_read}
+use Rattle.limits_text.proofs.PrintedTexts.{printed_read}
 use Rattle.limits_text.proofs.laws.printed_limits_are_read.Goals as goal
 
 pub returns : goal.returns

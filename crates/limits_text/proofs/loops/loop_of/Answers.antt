@@ -1,12 +1,10 @@
-use Rattle.std.proofs.Common.{◌≡◌, ap, sym, subst, List, ℕ, length, ◌<◌}
-use Rattle.std.specs.List.{All}
+use Rattle.std.proofs.Common.{◌≡◌, ap, sym, subst, List, ℕ, length, ◌<◌, All}
 use Rattle.soc_model.specs.declared.TestId.{TestId}
 use Rattle.plan_model.specs.Rules.{live_ids}
 use Rattle.live_tests.proofs.Precedences.{pairs_within}
 use Rattle.limits_text.specs.Loops.{HasRank, IsFirstLoop, AreAt}
 use Rattle.live_tests.specs.Names.{precedences}
-use Rattle.limits_text.proofs.FirstLoops.{AreWithin}
-use Rattle.limits_text.proofs.LoopTests.{acyclic, loop_within}
+use Rattle.limits_text.proofs.FirstLoops.{AreWithin, acyclic, loop_within}
 use Rattle.limits_text.proofs.loops.loop_of.Goals as goal
 
 pub first_loop-requires : goal.first_loop-requires

@@ -1,7 +1,7 @@
 use Rattle.std.proofs.Common.{◌≡◌, ◌+◌, ◌++◌, ◌∷◌, [], List, get_or, take, sym, subst, refl, rules}
 use Rattle.soc_model.specs.declared.TestId.{TestId}
 use Rattle.limits_text.specs.Loops.{AreAt}
-use Rattle.limits_text.proofs.LoopTests.{tests_more}
+use Rattle.limits_text.proofs.FirstLoops.{tests_more}
 use Rattle.limits_text.proofs.loops.tests_at.Goals as goal
 
 pub loop-place-preserved : goal.loop-place-preserved

@@ -1,5 +1,4 @@
-use Rattle.std.proofs.Common.{◌+◌, ◌∙◌, ap, drop, map, subst}
-use Rattle.std.specs.Prelude.{Ok, Err}
+use Rattle.std.proofs.Common.{◌+◌, ◌∙◌, ap, drop, map, subst, Ok, Err}
 use Rattle.limits_text.specs.Meaning.{first_line}
 use Rattle.limits_text.specs.Places.{Notes}
 use Rattle.limits_text.specs.Views.{item_of}

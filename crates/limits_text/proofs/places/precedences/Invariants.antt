@@ -1,5 +1,4 @@
-use Rattle.std.proofs.Common.{◌≡◌, map, take, drop}
-use Rattle.std.specs.List.{flat_map}
+use Rattle.std.proofs.Common.{◌≡◌, map, take, drop, flat_map}
 use Rattle.limits_text.specs.Meaning.{first_line}
 use Rattle.limits_text.specs.Places.{pair_of}
 use Rattle.limits_text.specs.Views.{item_of}

@@ -1,7 +1,7 @@
 use Rattle.std.proofs.Common.{ℕ, List, sym, subst}
 use Rattle.plan_model.specs.Views.{limits_value}
 use Rattle.limits_text.specs.Answers.{AreReadLimits}
-use Rattle.limits_text.proofs.PrintedAnswers.{printed_read}
+use Rattle.limits_text.proofs.PrintedTexts.{printed_read}
 use Rattle.limits_text.proofs.print.print_limits.Goals as goal
 
 pub returns-clause-read : goal.returns-clause-read

@@ -1,5 +1,4 @@
-use Rattle.std.proofs.Common.{◌≡◌, ◌++◌, map, take}
-use Rattle.std.specs.List.{flat_map}
+use Rattle.std.proofs.Common.{◌≡◌, ◌++◌, map, take, flat_map}
 use Rattle.plan_model.specs.Views.{profile_value}
 use Rattle.limits_text.specs.Texts.{profile_line}
 use Rattle.limits_text.proofs.print.push_profiles.Given as goal

@@ -1,4 +1,4 @@
-use Rattle.limits_text.proofs.PrintedWords.{steps_more}
+use Rattle.limits_text.proofs.Printing.{steps_more}
 use Rattle.limits_text.proofs.print.push_steps.Goals as goal
 
 pub loop-from-preserved : goal.loop-from-preserved

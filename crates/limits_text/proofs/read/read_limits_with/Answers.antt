@@ -1,11 +1,10 @@
-use Rattle.std.proofs.Common.{◌∙◌, List, map, subst}
-use Rattle.std.specs.Prelude.{Ok}
+use Rattle.std.proofs.Common.{◌∙◌, List, map, subst, Ok}
 use Rattle.soc_model.specs.Chips.{soc_value}
 use Rattle.plan_model.specs.Views.{limits_value}
 use Rattle.limits_text.specs.declared.items.Item.{Item}
 use Rattle.limits_text.specs.Places.{StopsAt, HasFirstLoop}
 use Rattle.limits_text.specs.Views.{item_of}
-use Rattle.limits_text.proofs.Reading.{said, sound_said}
+use Rattle.limits_text.proofs.OneAnswer.{said, sound_said}
 use Rattle.limits_text.proofs.Noting.{noted_said}
 use Rattle.limits_text.proofs.read.read_limits_with.Goals as goal
 

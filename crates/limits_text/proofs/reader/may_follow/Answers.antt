@@ -1,4 +1,4 @@
-use Rattle.limits_text.proofs.Lists.{follows_true, follows_false}
+use Rattle.limits_text.proofs.WordFacts.{follows_true, follows_false}
 use Rattle.limits_text.proofs.reader.may_follow.Goals as goal
 
 pub returns-then-last-from : goal.returns-then-last-from

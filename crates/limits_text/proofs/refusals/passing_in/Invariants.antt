@@ -1,5 +1,4 @@
-use Rattle.std.proofs.Common.{◌≡◌, ℕ, map, drop}
-use Rattle.std.specs.List.{filter}
+use Rattle.std.proofs.Common.{◌≡◌, ℕ, map, drop, filter}
 use Rattle.soc_model.specs.Chips.{module_value, is_live, live_of}
 use Rattle.plan_model.specs.Views.{profile_value}
 use Rattle.limits_text.specs.Passing.{live_at, first_passing}

@@ -1,5 +1,4 @@
-use Rattle.std.proofs.Common.{◌≡◌, ℕ, ◌∙◌, sym, ap, position, Some, None, List, [], ◌∷◌, map, nat_lt}
-use Rattle.std.specs.Prelude.{find}
+use Rattle.std.proofs.Common.{◌≡◌, ℕ, ◌∙◌, sym, ap, position, Some, None, List, [], ◌∷◌, map, nat_lt, find}
 use Rattle.soc_model.specs.Chips.{same_test}
 use Rattle.plan_model.specs.declared.Profile.{Profile}
 use Rattle.plan_model.specs.Plans.{ProfileValue}

@@ -1,5 +1,4 @@
-use Rattle.std.proofs.Common.{◌≡◌, ℕ, map, drop, nat_lt}
-use Rattle.std.specs.Prelude.{find}
+use Rattle.std.proofs.Common.{◌≡◌, ℕ, map, drop, nat_lt, find}
 use Rattle.limits_text.proofs.refusals.passing_step.Given as goal
 
 abbrev pub invariant-loop-power : goal.invariant-loop-power

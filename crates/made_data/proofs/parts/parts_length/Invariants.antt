@@ -1,5 +1,4 @@
-use Rattle.std.proofs.Common.{◌≡◌, ◌*◌, ◌^◌, ◌≤◌, map, take}
-use Rattle.std.specs.List.{sum_by}
+use Rattle.std.proofs.Common.{◌≡◌, ◌*◌, ◌^◌, ◌≤◌, map, take, sum_by}
 use Rattle.made_data.specs.Parts.{part_length, part_value}
 use Rattle.made_data.proofs.parts.parts_length.Given as goal
 

@@ -1,5 +1,4 @@
-use Rattle.std.proofs.Common.{◌≡◌, ◌<◌, ℕ, length}
-use Rattle.std.specs.Prelude.{slice_index}
+use Rattle.std.proofs.Common.{◌≡◌, ◌<◌, ℕ, length, slice_index}
 use Rattle.pack_leaves.proofs.knapsack.clear_row.Given as goal
 
 abbrev pub invariant-loop-x : goal.invariant-loop-x

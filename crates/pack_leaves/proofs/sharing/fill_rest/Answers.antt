@@ -1,5 +1,4 @@
-use Rattle.std.proofs.Common.{◌∙◌, arith, rules, subst, suc, ◌+◌, ◌≡◌, ◌<◌, length}
-use Rattle.std.specs.Prelude.{slice_index, slice_set}
+use Rattle.std.proofs.Common.{◌∙◌, arith, rules, subst, suc, ◌+◌, ◌≡◌, ◌<◌, length, slice_index, slice_set}
 use Rattle.std.proofs.lemmas.List.{length-set}
 use Rattle.pack_leaves.proofs.Rows.{IsFilled, filled_next}
 use Rattle.pack_leaves.proofs.sharing.fill_rest.Goals as goal

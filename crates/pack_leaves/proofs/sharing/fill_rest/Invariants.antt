@@ -1,5 +1,4 @@
-use Rattle.std.proofs.Common.{◌≡◌, length}
-use Rattle.std.specs.Prelude.{slice_index}
+use Rattle.std.proofs.Common.{◌≡◌, length, slice_index}
 use Rattle.pack_leaves.proofs.Rows.{IsFilled}
 use Rattle.pack_leaves.proofs.sharing.fill_rest.Given as goal
 

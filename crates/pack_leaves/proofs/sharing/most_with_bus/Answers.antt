@@ -1,5 +1,4 @@
-use Rattle.std.proofs.Common.{rules}
-use Rattle.std.specs.Prelude.{slice_index}
+use Rattle.std.proofs.Common.{rules, slice_index}
 use Rattle.pack_leaves.proofs.Rows.{found_next}
 use Rattle.pack_leaves.proofs.sharing.most_with_bus.Goals as goal
 

@@ -1,5 +1,4 @@
-use Rattle.std.proofs.Common.{◌≤◌, sym, ap, ◌∙◌, refl, arith}
-use Rattle.std.specs.Prelude.{slice_get}
+use Rattle.std.proofs.Common.{◌≤◌, sym, ap, ◌∙◌, refl, arith, slice_get}
 use Rattle.soc_model.specs.Chips.{ModuleValue, SocValue, soc_value, module_value}
 use Rattle.plan_model.specs.Views.{wrapper_value}
 use Rattle.width_table.specs.Times.{least_time}

@@ -1,6 +1,4 @@
-use Rattle.std.proofs.Common.{◌∙◌, ap, arith}
-use Rattle.std.specs.Prelude.{nat_lt}
-use Rattle.std.specs.List.{count_by}
+use Rattle.std.proofs.Common.{◌∙◌, ap, arith, nat_lt, count_by}
 use Rattle.picture.proofs.StartsCounted.{earlier_is}
 use Rattle.picture.proofs.fills.earlier_in.Goals as goal
 

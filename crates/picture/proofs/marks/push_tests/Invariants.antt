@@ -1,5 +1,4 @@
-use Rattle.std.proofs.Common.{◌≡◌, ◌++◌, take}
-use Rattle.std.specs.List.{flat_map}
+use Rattle.std.proofs.Common.{◌≡◌, ◌++◌, take, flat_map}
 use Rattle.soc_model.specs.Chips.{soc_value}
 use Rattle.picture.specs.Marks.{test_text}
 use Rattle.picture.proofs.marks.push_tests.Given as goal

@@ -1,11 +1,9 @@
-use Rattle.std.proofs.Common.{◌++◌}
-use Rattle.std.specs.Prelude.{codes}
+use Rattle.std.proofs.Common.{◌++◌, codes, flat_map}
 use Rattle.std.proofs.lemmas.Result.{on_ok_weaker}
-use Rattle.std.specs.List.{flat_map}
 use Rattle.picture.specs.Marks.{label_at}
 use Rattle.picture.specs.Scale.{mark_line, mark_number, marks_by, scale_by}
-use Rattle.picture.proofs.scale.push_scale_by.Goals as goal
 use Rattle.common_lemmas.proofs.Lists.{joined_before}
+use Rattle.picture.proofs.scale.push_scale_by.Goals as goal
 
 pub returns : goal.returns
 unfolding scale_by

@@ -1,9 +1,8 @@
-use Rattle.std.proofs.Common.{◌++◌}
-use Rattle.std.specs.Prelude.{codes, decimal}
+use Rattle.std.proofs.Common.{◌++◌, codes, decimal}
 use Rattle.std.proofs.lemmas.Result.{on_ok_weaker}
 use Rattle.picture.specs.PictureText.{frame_text}
-use Rattle.picture.proofs.sections.push_frame.Goals as goal
 use Rattle.common_lemmas.proofs.Lists.{joined_before}
+use Rattle.picture.proofs.sections.push_frame.Goals as goal
 
 pub returns : goal.returns
 unfolding frame_text

@@ -1,10 +1,9 @@
-use Rattle.std.proofs.Common.{◌++◌}
-use Rattle.std.specs.Prelude.{codes, decimal}
+use Rattle.std.proofs.Common.{◌++◌, codes, decimal}
 use Rattle.std.proofs.lemmas.Result.{on_ok_weaker}
 use Rattle.picture.specs.PictureText.{limit_text}
 use Rattle.picture.specs.Marks.{label_at, label_end}
-use Rattle.picture.proofs.sections.push_limit.Goals as goal
 use Rattle.common_lemmas.proofs.Lists.{joined_before}
+use Rattle.picture.proofs.sections.push_limit.Goals as goal
 
 pub returns : goal.returns
 unfolding limit_text

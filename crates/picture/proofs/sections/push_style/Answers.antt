@@ -1,8 +1,7 @@
-use Rattle.std.proofs.Common.{◌++◌}
-use Rattle.std.specs.Prelude.{codes}
+use Rattle.std.proofs.Common.{◌++◌, codes}
 use Rattle.std.proofs.lemmas.Result.{on_ok_weaker}
-use Rattle.picture.proofs.sections.push_style.Goals as goal
 use Rattle.common_lemmas.proofs.Lists.{joined_before}
+use Rattle.picture.proofs.sections.push_style.Goals as goal
 
 pub returns : goal.returns
 returns c =

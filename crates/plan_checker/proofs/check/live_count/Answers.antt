@@ -1,5 +1,4 @@
-use Rattle.std.proofs.Common.{◌≡◌, length, take, sym, ap, ◌∙◌, arith}
-use Rattle.std.specs.List.{filter, sum_by}
+use Rattle.std.proofs.Common.{◌≡◌, length, take, sym, ap, ◌∙◌, arith, filter, sum_by}
 use Rattle.std.proofs.lemmas.List.{take_all}
 use Rattle.soc_model.specs.Chips.{ModuleValue, soc_value, module_value, is_live}
 use Rattle.plan_checker.proofs.RoomSizes.{live_more}

@@ -1,5 +1,4 @@
-use Rattle.std.proofs.Common.{◌≡◌, length, take}
-use Rattle.std.specs.List.{filter, sum_by}
+use Rattle.std.proofs.Common.{◌≡◌, length, take, filter, sum_by}
 use Rattle.soc_model.specs.Chips.{ModuleValue, soc_value, is_live}
 use Rattle.plan_checker.proofs.check.live_count.Given as goal
 

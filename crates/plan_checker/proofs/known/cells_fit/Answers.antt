@@ -1,8 +1,6 @@
-use Rattle.std.proofs.Common.{◌≡◌, Some, sym, ap, ◌∙◌, subst, true≢false}
-use Rattle.std.specs.Prelude.{slice_get}
-use Rattle.soc_model.specs.Chips.{ModuleValue}
+use Rattle.std.proofs.Common.{◌≡◌, Some, sym, ap, ◌∙◌, subst, true≢false, slice_get}
+use Rattle.soc_model.specs.Chips.{ModuleValue, soc_value, module_value}
 use Rattle.plan_model.specs.Cells.{IsProper}
-use Rattle.soc_model.specs.Chips.{soc_value, module_value}
 use Rattle.plan_model.specs.Views.{wrapper_value}
 use Rattle.plan_checker.proofs.Finding.{number_at, some_same}
 use Rattle.plan_checker.proofs.known.cells_fit.Goals as goal

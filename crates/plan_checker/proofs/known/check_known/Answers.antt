@@ -1,5 +1,4 @@
-use Rattle.std.proofs.Common.{◌++◌, map, refl}
-use Rattle.std.specs.List.{flat_map, Contains}
+use Rattle.std.proofs.Common.{◌++◌, map, refl, flat_map, Contains}
 use Rattle.plan_model.specs.declared.Bus.{Bus}
 use Rattle.plan_model.specs.declared.Wrapper.{Wrapper}
 use Rattle.soc_model.specs.Chips.{soc_value}

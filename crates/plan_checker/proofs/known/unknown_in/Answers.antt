@@ -1,5 +1,4 @@
-use Rattle.std.proofs.Common.{refl, arith}
-use Rattle.std.specs.List.{Contains}
+use Rattle.std.proofs.Common.{refl, arith, Contains}
 use Rattle.std.proofs.lemmas.Option.{slice_get-get_or}
 use Rattle.soc_model.specs.Chips.{soc_value}
 use Rattle.plan_checker.proofs.Breaking.{kept_more, breaks_at, kept_all}

@@ -1,5 +1,4 @@
-use Rattle.std.proofs.Common.{take}
-use Rattle.std.specs.List.{Contains}
+use Rattle.std.proofs.Common.{take, Contains}
 use Rattle.soc_model.specs.Chips.{soc_value}
 use Rattle.plan_checker.specs.Broken.{EachOf}
 use Rattle.plan_checker.proofs.known.unknown_in.Given as goal

@@ -1,12 +1,11 @@
-use Rattle.std.proofs.Common.{map, length, refl, arith}
-use Rattle.std.specs.List.{Contains}
+use Rattle.std.proofs.Common.{map, length, refl, arith, Contains}
 use Rattle.std.proofs.lemmas.Option.{slice_get_read}
 use Rattle.plan_model.specs.declared.Wrapper.{Wrapper}
 use Rattle.soc_model.specs.Chips.{soc_value}
 use Rattle.plan_checker.proofs.Rooms.{length_values}
 use Rattle.plan_checker.proofs.Breaking.{kept_more, breaks_at, kept_all}
-use Rattle.plan_checker.proofs.known.unknown_of.Goals as goal
 use Rattle.common_lemmas.proofs.Lists.{map_at}
+use Rattle.plan_checker.proofs.known.unknown_of.Goals as goal
 
 pub returns-then-not-is_known-clause-first : goal.returns-then-not-is_known-clause-first
 returns-then-not-is_known-clause-first c =

@@ -1,5 +1,4 @@
-use Rattle.std.proofs.Common.{map, take}
-use Rattle.std.specs.List.{Contains}
+use Rattle.std.proofs.Common.{map, take, Contains}
 use Rattle.plan_model.specs.declared.Wrapper.{Wrapper}
 use Rattle.soc_model.specs.Chips.{soc_value}
 use Rattle.plan_checker.specs.Broken.{EachOf}

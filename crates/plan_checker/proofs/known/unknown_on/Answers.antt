@@ -1,5 +1,4 @@
-use Rattle.std.proofs.Common.{length, refl, sym, arith}
-use Rattle.std.specs.List.{Contains}
+use Rattle.std.proofs.Common.{length, refl, sym, arith, Contains}
 use Rattle.std.proofs.lemmas.Option.{slice_get_read}
 use Rattle.plan_model.specs.declared.Bus.{Bus}
 use Rattle.soc_model.specs.Chips.{soc_value}

@@ -1,5 +1,4 @@
-use Rattle.std.proofs.Common.{take}
-use Rattle.std.specs.List.{flat_map, Contains}
+use Rattle.std.proofs.Common.{take, flat_map, Contains}
 use Rattle.plan_model.specs.declared.Bus.{Bus}
 use Rattle.soc_model.specs.Chips.{soc_value}
 use Rattle.plan_checker.specs.Broken.{EachOf}

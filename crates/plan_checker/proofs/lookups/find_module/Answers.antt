@@ -1,5 +1,4 @@
-use Rattle.soc_model.specs.Chips.{soc_value}
-use Rattle.soc_model.specs.Chips.{numbers}
+use Rattle.soc_model.specs.Chips.{soc_value, numbers}
 use Rattle.plan_checker.proofs.Finding.{place_found, place_missing}
 use Rattle.plan_checker.proofs.lookups.find_module.Goals as goal
 

@@ -1,8 +1,7 @@
-use Rattle.std.proofs.Common.{refl, sym, subst}
-use Rattle.std.specs.List.{Contains}
+use Rattle.std.proofs.Common.{refl, sym, subst, Contains}
 use Rattle.soc_model.specs.Chips.{numbers, soc_value}
-use Rattle.plan_checker.proofs.lookups.is_known.Goals as goal
 use Rattle.common_lemmas.proofs.Lists.{contains_from, contains_at}
+use Rattle.plan_checker.proofs.lookups.is_known.Goals as goal
 
 pub returns-in-Some-clause-known : goal.returns-in-Some-clause-known
 returns-in-Some-clause-known c = λ _. subst (λ ns. Contains ns c.args.number) (sym c.requires.keyed) (contains_from (numbers (soc_value c.args.soc.now)) c.args.number c.in-Some.field-0 c.in-Some.ensures.found)

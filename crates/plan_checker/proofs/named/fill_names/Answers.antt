@@ -1,5 +1,4 @@
-use Rattle.std.proofs.Common.{◌≡◌, ◌+◌, ◌++◌, List, [], drop, sym, ap, ◌∙◌, append-nil, arith, rules, refl}
-use Rattle.std.specs.List.{flat_map}
+use Rattle.std.proofs.Common.{◌≡◌, ◌+◌, ◌++◌, List, [], drop, sym, ap, ◌∙◌, append-nil, arith, rules, refl, flat_map}
 use Rattle.std.proofs.lemmas.List.{drop_all}
 use Rattle.indexmap.specs.IndexSet.{keys}
 use Rattle.soc_model.specs.Chips.{soc_value, module_value}

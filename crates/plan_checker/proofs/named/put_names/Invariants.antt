@@ -1,5 +1,4 @@
-use Rattle.std.proofs.Common.{◌≡◌, ◌+◌, ◌≤◌, ◌++◌, length, map, take}
-use Rattle.std.specs.List.{filter}
+use Rattle.std.proofs.Common.{◌≡◌, ◌+◌, ◌≤◌, ◌++◌, length, map, take, filter}
 use Rattle.indexmap.specs.IndexSet.{keys, spare}
 use Rattle.soc_model.specs.Chips.{is_live, module_value}
 use Rattle.live_tests.specs.Names.{name_in}

@@ -1,5 +1,4 @@
-use Rattle.std.proofs.Common.{◌≡◌, ◌+◌, ◌++◌, List, ◌∷◌, [], ◌<◌, ◌≤◌, true, false, Some, length, get_or, take, sym, ap, ◌∙◌, append_assoc, arith}
-use Rattle.std.specs.Prelude.{slice_get, nat_lt}
+use Rattle.std.proofs.Common.{◌≡◌, ◌+◌, ◌++◌, List, ◌∷◌, [], ◌<◌, ◌≤◌, true, false, Some, length, get_or, take, sym, ap, ◌∙◌, append_assoc, arith, slice_get, nat_lt}
 use Rattle.std.proofs.lemmas.Bool.{lt-ltb}
 use Rattle.std.proofs.lemmas.List.{take_all, take_more_set, length-append}
 use Rattle.std.proofs.lemmas.Option.{slice_get-get_or}

@@ -1,8 +1,7 @@
 use Rattle.std.proofs.Common.{take, get_or, arith}
 use Rattle.std.proofs.lemmas.Option.{slice_get_within, slice_get-get_or}
 use Rattle.std.proofs.lemmas.List.{take_all}
-use Rattle.soc_model.specs.Chips.{soc_value}
-use Rattle.soc_model.specs.Chips.{numbers}
+use Rattle.soc_model.specs.Chips.{soc_value, numbers}
 use Rattle.plan_checker.specs.Marks.{IsUnlisted}
 use Rattle.plan_model.proofs.FirstBreaches.{each_more, each_all, first_here}
 use Rattle.plan_checker.proofs.Marking.{unmarked, marked_before, mark_more}

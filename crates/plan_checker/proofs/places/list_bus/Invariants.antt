@@ -1,6 +1,5 @@
 use Rattle.std.proofs.Common.{take}
-use Rattle.soc_model.specs.Chips.{soc_value}
-use Rattle.soc_model.specs.Chips.{numbers}
+use Rattle.soc_model.specs.Chips.{soc_value, numbers}
 use Rattle.plan_checker.specs.Marks.{IsUnlisted, AreMarked}
 use Rattle.plan_model.proofs.FirstBreaches.{EachTo}
 use Rattle.plan_checker.proofs.places.list_bus.Given as goal

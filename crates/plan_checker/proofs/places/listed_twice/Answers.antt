@@ -1,16 +1,13 @@
-use Rattle.std.proofs.Common.{◌≡◌, Some, length, map, take, refl, sym, arith}
-use Rattle.std.specs.Prelude.{slice_get}
-use Rattle.std.specs.List.{Contains}
+use Rattle.std.proofs.Common.{◌≡◌, Some, length, map, take, refl, sym, arith, slice_get, Contains}
 use Rattle.std.proofs.lemmas.List.{length-take-le, take_all}
 use Rattle.std.proofs.lemmas.Option.{slice_get_read}
-use Rattle.soc_model.specs.Chips.{soc_value}
+use Rattle.soc_model.specs.Chips.{soc_value, numbers}
 use Rattle.plan_model.specs.Views.{bus_value}
-use Rattle.soc_model.specs.Chips.{numbers}
 use Rattle.plan_checker.proofs.Rooms.{length_values}
 use Rattle.plan_checker.proofs.Breaking.{if_none}
 use Rattle.plan_checker.proofs.Marking.{marks_bound, double_first, still_new, marked_more, known_on, marked_all}
-use Rattle.plan_checker.proofs.places.listed_twice.Goals as goal
 use Rattle.common_lemmas.proofs.Lists.{map_at}
+use Rattle.plan_checker.proofs.places.listed_twice.Goals as goal
 
 pub list_bus-double-requires-clause-known : goal.list_bus-double-requires-clause-known
 list_bus-double-requires-clause-known c =

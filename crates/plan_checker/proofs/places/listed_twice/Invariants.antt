@@ -1,10 +1,8 @@
-use Rattle.std.proofs.Common.{map, take}
-use Rattle.std.specs.List.{flat_map}
+use Rattle.std.proofs.Common.{map, take, flat_map}
 use Rattle.plan_model.specs.Plans.{BusValue}
-use Rattle.soc_model.specs.Chips.{soc_value}
+use Rattle.soc_model.specs.Chips.{soc_value, numbers}
 use Rattle.plan_model.specs.Views.{bus_value}
 use Rattle.plan_model.specs.Rules.{Each, IsNew}
-use Rattle.soc_model.specs.Chips.{numbers}
 use Rattle.plan_checker.specs.Marks.{AreMarkedTo}
 use Rattle.plan_checker.proofs.places.listed_twice.Given as goal
 

@@ -1,8 +1,6 @@
-use Rattle.std.proofs.Common.{◌≡◌, true, Some, refl, sym, ◌∙◌, subst, arith, inl, inr, true≢false}
-use Rattle.std.specs.Prelude.{slice_get}
+use Rattle.std.proofs.Common.{◌≡◌, true, Some, refl, sym, ◌∙◌, subst, arith, inl, inr, true≢false, slice_get}
 use Rattle.std.proofs.lemmas.Bool.{cases_eq}
-use Rattle.soc_model.specs.Chips.{ModuleValue}
-use Rattle.soc_model.specs.Chips.{soc_value, module_value}
+use Rattle.soc_model.specs.Chips.{ModuleValue, soc_value, module_value}
 use Rattle.plan_model.specs.Rules.{IsListed, has_tam}
 use Rattle.plan_checker.proofs.Finding.{some_same}
 use Rattle.plan_model.proofs.FirstBreaches.{each_all, first_here}

@@ -1,7 +1,5 @@
-use Rattle.std.proofs.Common.{◌≡◌, ◌<◌, ℕ, Some}
-use Rattle.std.specs.Prelude.{slice_get, slice_index, IsTrue}
-use Rattle.soc_model.specs.Chips.{ModuleValue}
-use Rattle.soc_model.specs.Chips.{soc_value}
+use Rattle.std.proofs.Common.{◌≡◌, ◌<◌, ℕ, Some, slice_get, slice_index, IsTrue}
+use Rattle.soc_model.specs.Chips.{ModuleValue, soc_value}
 use Rattle.plan_model.specs.Rules.{has_tam}
 use Rattle.plan_checker.proofs.places.unplaced.Given as goal
 

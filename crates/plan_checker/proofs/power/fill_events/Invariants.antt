@@ -1,5 +1,4 @@
-use Rattle.std.proofs.Common.{◌≡◌, ◌*◌, ◌≤◌, length, take}
-use Rattle.std.specs.Prelude.{vec_capacity}
+use Rattle.std.proofs.Common.{◌≡◌, ◌*◌, ◌≤◌, length, take, vec_capacity}
 use Rattle.plan_model.specs.Views.{limits_value}
 use Rattle.plan_checker.specs.declared.events.TheConstants.{EVENTS_EACH}
 use Rattle.power_events.specs.Events.{all_events}

@@ -1,5 +1,4 @@
-use Rattle.std.proofs.Common.{◌<◌, ℕ, List, Some, get_or, map, ◌≡◌, ◌≤◌, ◌-◌, length, ap, sym, ◌∙◌, arith}
-use Rattle.std.specs.Prelude.{slice_get}
+use Rattle.std.proofs.Common.{◌<◌, ℕ, List, Some, get_or, map, ◌≡◌, ◌≤◌, ◌-◌, length, ap, sym, ◌∙◌, arith, slice_get}
 use Rattle.plan_model.specs.declared.Profile.{Profile}
 use Rattle.std.proofs.lemmas.Option.{slice_get_within}
 use Rattle.plan_model.specs.Views.{limits_value, profile_value}

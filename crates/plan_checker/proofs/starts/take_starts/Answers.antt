@@ -1,5 +1,4 @@
-use Rattle.std.proofs.Common.{◌≡◌, ℕ, Some, List, get_or, take, refl, sym, ◌∙◌, subst, arith, true≢false}
-use Rattle.std.specs.Prelude.{slice_get}
+use Rattle.std.proofs.Common.{◌≡◌, ℕ, Some, List, get_or, take, refl, sym, ◌∙◌, subst, arith, true≢false, slice_get}
 use Rattle.std.proofs.lemmas.List.{take_all}
 use Rattle.std.proofs.lemmas.Option.{slice_get_within, slice_get-get_or}
 use Rattle.indexmap.specs.IndexSet.{keys}
@@ -7,8 +6,8 @@ use Rattle.soc_model.specs.declared.TestId.{TestId}
 use Rattle.plan_checker.specs.Starting.{AreStarts, IsOnce}
 use Rattle.plan_model.proofs.FirstBreaches.{each_more, each_all, first_here}
 use Rattle.plan_checker.proofs.Starting.{is_key, no_key, key_has, starts_more, front_early}
-use Rattle.plan_checker.proofs.starts.take_starts.Goals as goal
 use Rattle.common_lemmas.proofs.Lists.{contains_from}
+use Rattle.plan_checker.proofs.starts.take_starts.Goals as goal
 
 none : TestId × ℕ
 none = (record { «module» = 0; test = 0 }, 0)

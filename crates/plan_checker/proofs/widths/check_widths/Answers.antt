@@ -1,5 +1,4 @@
-use Rattle.std.proofs.Common.{◌≡◌, suc, Some, List, [], ◌∷◌, length, get_or, map, refl, ap, arith}
-use Rattle.std.specs.Prelude.{slice_get}
+use Rattle.std.proofs.Common.{◌≡◌, suc, Some, List, [], ◌∷◌, length, get_or, map, refl, ap, arith, slice_get}
 use Rattle.std.proofs.lemmas.List.Sums.{sum_by_more}
 use Rattle.std.proofs.lemmas.Option.{slice_get_read, slice_get_within, get_or_from_slice_get}
 use Rattle.plan_model.specs.Plans.{BusValue}
@@ -7,9 +6,9 @@ use Rattle.plan_model.specs.Views.{bus_value}
 use Rattle.plan_model.specs.Rules.{FitsWires}
 use Rattle.plan_checker.specs.Wires.{FitsIn}
 use Rattle.plan_model.proofs.FirstBreaches.{each_more, each_all, first_here}
-use Rattle.plan_checker.proofs.widths.check_widths.Goals as goal
 use Rattle.plan_checker.proofs.widths.check_widths.Goals.{then-bus-eq0-via-then-bus-eq0, then-bus-eq0-via-else-bus-eq0+then-bus-left}
 use Rattle.common_lemmas.proofs.Lists.{map_at}
+use Rattle.plan_checker.proofs.widths.check_widths.Goals as goal
 
 length_values : {X Y : Type 0} (f : X → Y) (xs : List X) → length (map f xs) ≡ length xs
 length_values f [] = refl

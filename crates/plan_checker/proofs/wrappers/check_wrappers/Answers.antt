@@ -1,5 +1,4 @@
-use Rattle.std.proofs.Common.{map, refl}
-use Rattle.std.specs.List.{Contains}
+use Rattle.std.proofs.Common.{map, refl, Contains}
 use Rattle.soc_model.specs.Chips.{soc_value}
 use Rattle.plan_model.specs.Views.{plan_value}
 use Rattle.plan_model.specs.Faults.{Present, Missing}

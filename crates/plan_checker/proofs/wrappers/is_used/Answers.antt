@@ -1,7 +1,5 @@
-use Rattle.std.proofs.Common.{◌≡◌, Some, true, sym, ap, ◌∙◌, subst, true≢false}
-use Rattle.std.specs.Prelude.{slice_get}
-use Rattle.soc_model.specs.Chips.{ModuleValue}
-use Rattle.soc_model.specs.Chips.{soc_value, module_value}
+use Rattle.std.proofs.Common.{◌≡◌, Some, true, sym, ap, ◌∙◌, subst, true≢false, slice_get}
+use Rattle.soc_model.specs.Chips.{ModuleValue, soc_value, module_value}
 use Rattle.plan_model.specs.Rules.{uses_mode}
 use Rattle.plan_checker.proofs.Finding.{number_at, some_same}
 use Rattle.plan_checker.proofs.Pairing.{UsedAt, used_at, pair_there}

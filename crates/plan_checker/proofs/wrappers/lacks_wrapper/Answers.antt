@@ -1,12 +1,11 @@
-use Rattle.std.proofs.Common.{◌≡◌, true, false, sym, ◌∙◌}
-use Rattle.std.specs.List.{Contains}
+use Rattle.std.proofs.Common.{◌≡◌, true, false, sym, ◌∙◌, Contains}
 use Rattle.indexmap.specs.IndexSet.{keys}
 use Rattle.soc_model.specs.Chips.{module_value}
 use Rattle.plan_model.specs.Rules.{uses_mode}
 use Rattle.plan_checker.proofs.Breaking.{of_none, of_one, breaks_one}
 use Rattle.plan_checker.proofs.Pairing.{paired, not_paired}
-use Rattle.plan_checker.proofs.wrappers.lacks_wrapper.Goals as goal
 use Rattle.common_lemmas.proofs.Tests.{not_true, not_false}
+use Rattle.plan_checker.proofs.wrappers.lacks_wrapper.Goals as goal
 
 pub returns-then-not-uses_mode-clause-kept : goal.returns-then-not-uses_mode-clause-kept
 returns-then-not-uses_mode-clause-kept c = λ _.

@@ -1,5 +1,4 @@
-use Rattle.std.proofs.Common.{◌≡◌, ◌+◌, ◌≤◌, Some, length, map, take, refl, sym, ap, ◌∙◌, arith}
-use Rattle.std.specs.Prelude.{slice_get}
+use Rattle.std.proofs.Common.{◌≡◌, ◌+◌, ◌≤◌, Some, length, map, take, refl, sym, ap, ◌∙◌, arith, slice_get}
 use Rattle.std.proofs.lemmas.List.{length-append, length-take-le, take_all}
 use Rattle.std.proofs.lemmas.Option.{slice_get_read}
 use Rattle.plan_model.specs.declared.Wrapper.{Wrapper}
@@ -9,8 +8,8 @@ use Rattle.plan_model.specs.Rules.{IsFitting, used_pairs, pair_of}
 use Rattle.plan_model.proofs.FirstBreaches.{EachTo, each_more, each_all, first_here}
 use Rattle.plan_checker.proofs.Rooms.{length_values, new_fit}
 use Rattle.plan_checker.proofs.Pairing.{paired, not_paired, pairs_more}
-use Rattle.plan_checker.proofs.wrappers.take_wrappers.Goals as goal
 use Rattle.common_lemmas.proofs.Lists.{map_at}
+use Rattle.plan_checker.proofs.wrappers.take_wrappers.Goals as goal
 
 pub returns-then-not-is_used-clause-first : goal.returns-then-not-is_used-clause-first
 returns-then-not-is_used-clause-first c =

@@ -1,8 +1,6 @@
-use Rattle.std.proofs.Common.{◌++◌, true, false, sym, arith}
-use Rattle.std.specs.List.{Contains}
+use Rattle.std.proofs.Common.{◌++◌, true, false, sym, arith, Contains}
 use Rattle.indexmap.specs.IndexSet.{keys}
-use Rattle.soc_model.specs.Chips.{ModuleValue}
-use Rattle.soc_model.specs.Chips.{soc_value, module_value}
+use Rattle.soc_model.specs.Chips.{ModuleValue, soc_value, module_value}
 use Rattle.plan_model.specs.Rules.{mode_pair}
 use Rattle.plan_checker.proofs.Breaking.{if_broken, if_none, flat_kept_at, flat_all}
 use Rattle.plan_checker.proofs.wrappers.unwrapped.Goals as goal

@@ -1,8 +1,6 @@
-use Rattle.std.proofs.Common.{◌++◌, true, false, take}
-use Rattle.std.specs.List.{flat_map, Contains}
+use Rattle.std.proofs.Common.{◌++◌, true, false, take, flat_map, Contains}
 use Rattle.indexmap.specs.IndexSet.{keys}
-use Rattle.soc_model.specs.Chips.{ModuleValue}
-use Rattle.soc_model.specs.Chips.{soc_value}
+use Rattle.soc_model.specs.Chips.{ModuleValue, soc_value}
 use Rattle.plan_model.specs.Rules.{mode_pair}
 use Rattle.plan_checker.specs.Broken.{EachOf}
 use Rattle.plan_checker.proofs.wrappers.unwrapped.Given as goal

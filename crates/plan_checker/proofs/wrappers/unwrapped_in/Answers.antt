@@ -1,5 +1,4 @@
-use Rattle.std.proofs.Common.{true, false, refl}
-use Rattle.std.specs.List.{Contains}
+use Rattle.std.proofs.Common.{true, false, refl, Contains}
 use Rattle.indexmap.specs.IndexSet.{keys}
 use Rattle.soc_model.specs.Chips.{module_value}
 use Rattle.plan_model.specs.Rules.{mode_pair}

@@ -1,6 +1,5 @@
 use Rattle.std.proofs.Common.{refl}
-use Rattle.soc_model.specs.Chips.{soc_value}
-use Rattle.plan_model.specs.Views.{bound_value, limits_value, plan_value}
+use Rattle.plan_model.specs.Views.{bound_value, plan_value}
 use Rattle.plan_improver.proofs.OtherBounds.{good_bounded}
 use Rattle.plan_improver.proofs.improving.with_greater_bound.Goals as goal
 
@@ -9,7 +8,7 @@ greater_bound-requires-clause-good c = λ n bound. bound (plan_value c.args.plan
 
 pub returns : goal.returns
 returns c = record {
-  good = good_bounded (soc_value c.args.known.now.soc.now) (limits_value c.args.known.now.limits.now) (plan_value c.args.plan) (bound_value c.in_ok-bound.bound) c.requires.good;
+  good = good_bounded c.args.problem.now.soc c.args.problem.now.limits (plan_value c.args.plan) (bound_value c.in_ok-bound.bound) c.requires.good;
   plan_is = refl;
   greater = c.in_ok-bound.ensures.greater;
   accepted = c.in_ok-bound.ensures.accepted;

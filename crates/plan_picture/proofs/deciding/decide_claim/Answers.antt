@@ -1,13 +1,8 @@
 use Rattle.std.proofs.Common.{◌∙◌}
-use Rattle.soc_model.specs.Chips.{soc_value}
-use Rattle.plan_model.specs.Views.{limits_value, plan_value}
 use Rattle.commands.proofs.AllFiles.{after_all, not_all}
 use Rattle.commands.proofs.LoadStages.{after_three, stops_all}
 use Rattle.plan_picture.specs.Pictures.{with_claim}
 use Rattle.plan_picture.proofs.deciding.decide_claim.Goals as goal
-
-pub answer_all-requires-clause-good : goal.answer_all-requires-clause-good
-answer_all-requires-clause-good g c = c.in-Ok.ensures.accepted.0
 
 pub returns-in-Ok-clause-follows : goal.returns-in-Ok-clause-follows
 returns-in-Ok-clause-follows g c =
@@ -22,7 +17,7 @@ returns-in-Ok-clause-held_stays g c = c.answer_all.ensures.held_stays ∙ c.load
 
 pub returns-in-Ok-clause-by_loads : goal.returns-in-Ok-clause-by_loads
 returns-in-Ok-clause-by_loads g c =
-    after_three g.H.Shelf.is_load c.args.soc.now c.args.limits.now c.args.plan.now (with_claim c.args.proof.now) (soc_value c.in-Ok.all.soc) (limits_value c.in-Ok.all.limits) (plan_value c.in-Ok.all.plan) c.args.shelf.now c.load_all.new.shelf c.answer_all.new.shelf c.answer_all.result c.in-Ok.ensures.by_loads c.answer_all.ensures.by_loads
+    after_three g.H.Shelf.is_load c.args.soc.now c.args.limits.now c.args.plan.now (with_claim c.args.proof.now) c.in-Ok.all.soc c.in-Ok.all.limits c.in-Ok.all.plan c.args.shelf.now c.load_all.new.shelf c.answer_all.new.shelf c.answer_all.result c.in-Ok.ensures.by_loads c.answer_all.ensures.by_loads
 
 pub returns-in-Err-clause-by_loads : goal.returns-in-Err-clause-by_loads
 returns-in-Err-clause-by_loads g c = stops_all g.H.Shelf.is_load c.args.soc.now c.args.limits.now c.args.plan.now (with_claim c.args.proof.now) c.args.shelf.now c.load_all.new.shelf c.in-Err.verdict c.in-Err.ensures.by_loads

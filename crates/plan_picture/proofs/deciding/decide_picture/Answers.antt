@@ -1,5 +1,3 @@
-use Rattle.soc_model.specs.Chips.{soc_value}
-use Rattle.plan_model.specs.Views.{limits_value, plan_value}
 use Rattle.picture.specs.PictureText.{picture_text}
 use Rattle.commands.specs.Procedures.{done_with}
 use Rattle.commands.proofs.FileStages.{done_of}
@@ -10,18 +8,15 @@ use Rattle.plan_picture.proofs.deciding.decide_picture.Goals as goal
 pub returns-in-Ok-clause-follows : goal.returns-in-Ok-clause-follows
 returns-in-Ok-clause-follows g c =
     after_all _ _ _ (λ chip bounds value. done_with (picture_text chip bounds value)) _ _ (g.H.Shelf.faults c.load_all.new.shelf) _ c.in-Ok.all _ c.load_all.ensures.faults_never_fall c.in-Ok.ensures.loads
-    (done_of (picture_text (soc_value c.in-Ok.all.soc) (limits_value c.in-Ok.all.limits) (plan_value c.in-Ok.all.plan)) _ _ (g.H.Shelf.faults c.load_all.new.shelf) (g.H.Shelf.faults c.load_all.new.shelf) _ c.print_picture.ensures.text c.answered_with.ensures)
+    (done_of (picture_text c.in-Ok.all.soc c.in-Ok.all.limits c.in-Ok.all.plan) _ _ (g.H.Shelf.faults c.load_all.new.shelf) (g.H.Shelf.faults c.load_all.new.shelf) _ c.text_of-text.ensures c.answered_with.ensures)
 
 pub returns-in-Err-clause-follows : goal.returns-in-Err-clause-follows
 returns-in-Err-clause-follows g c = not_all _ _ _ (λ chip bounds value. done_with (picture_text chip bounds value)) _ _ _ _ c.in-Err.ensures.loads
 
-pub print_picture-requires-clause-good : goal.print_picture-requires-clause-good
-print_picture-requires-clause-good g c = c.in-Ok.ensures.accepted.0
-
 pub returns-in-Ok-clause-by_loads : goal.returns-in-Ok-clause-by_loads
 returns-in-Ok-clause-by_loads g c =
-    after_three g.H.Shelf.is_load c.args.soc.now c.args.limits.now c.args.plan.now (λ chip bounds value. done_with (picture_text chip bounds value)) (soc_value c.in-Ok.all.soc) (limits_value c.in-Ok.all.limits) (plan_value c.in-Ok.all.plan) c.args.shelf.now c.load_all.new.shelf c.load_all.new.shelf c.answered_with.result c.in-Ok.ensures.by_loads
-    (done_loaded g.H.Shelf.is_load (picture_text (soc_value c.in-Ok.all.soc) (limits_value c.in-Ok.all.limits) (plan_value c.in-Ok.all.plan)) c.print_picture.result c.answered_with.result c.load_all.new.shelf c.print_picture.ensures.text c.answered_with.ensures)
+    after_three g.H.Shelf.is_load c.args.soc.now c.args.limits.now c.args.plan.now (λ chip bounds value. done_with (picture_text chip bounds value)) c.in-Ok.all.soc c.in-Ok.all.limits c.in-Ok.all.plan c.args.shelf.now c.load_all.new.shelf c.load_all.new.shelf c.answered_with.result c.in-Ok.ensures.by_loads
+    (done_loaded g.H.Shelf.is_load (picture_text c.in-Ok.all.soc c.in-Ok.all.limits c.in-Ok.all.plan) c.text_of-text.result c.answered_with.result c.load_all.new.shelf c.text_of-text.ensures c.answered_with.ensures)
 
 pub returns-in-Err-clause-by_loads : goal.returns-in-Err-clause-by_loads
 returns-in-Err-clause-by_loads g c = stops_all g.H.Shelf.is_load c.args.soc.now c.args.limits.now c.args.plan.now (λ chip bounds value. done_with (picture_text chip bounds value)) c.args.shelf.now c.load_all.new.shelf c.in-Err.verdict c.in-Err.ensures.by_loads

@@ -1,6 +1,4 @@
 use Rattle.std.proofs.Common.{◌≡◌, ℕ, List}
-use Rattle.soc_model.specs.Chips.{soc_value}
-use Rattle.plan_model.specs.Views.{limits_value, plan_value}
 use Rattle.commands.specs.Procedures.{Unless, done_with}
 use Rattle.commands.proofs.FileStages.{unless_any}
 use Rattle.commands.proofs.AllFiles.{not_all, after_all}
@@ -10,24 +8,18 @@ use Rattle.plan_simulator.specs.Runs.{simulated_text}
 use Rattle.plan_simulator.proofs.deciding.decide_simulate.Goals as goal
 use Rattle.tester_vectors.specs.VectorText.{too_many}
 
-pub simulated-verdict-requires-clause-good : goal.simulated-verdict-requires-clause-good
-simulated-verdict-requires-clause-good g c = c.good_without_limits.ensures.alone (soc_value c.in-Ok.all.soc) (limits_value c.in-Ok.all.limits) (plan_value c.in-Ok.all.plan) c.in-Ok.ensures.accepted.0
-
-pub simulated-verdict-requires-clause-narrow : goal.simulated-verdict-requires-clause-narrow
-simulated-verdict-requires-clause-narrow g c = c.good_without_limits.ensures.narrow (soc_value c.in-Ok.all.soc) (limits_value c.in-Ok.all.limits) (plan_value c.in-Ok.all.plan) c.in-Ok.ensures.limits c.in-Ok.ensures.accepted.0
-
 pub returns-in-Ok-clause-follows : goal.returns-in-Ok-clause-follows
 returns-in-Ok-clause-follows g c =
     after_all _ _ _ (λ chip bounds value. Unless (run_refusal (too_many value)) (done_with (simulated_text chip value c.args.seed))) _ _ (g.H.Shelf.faults c.load_all.new.shelf) _ c.in-Ok.all _ c.load_all.ensures.faults_never_fall c.in-Ok.ensures.loads
-    (unless_any (run_refusal (too_many (plan_value c.in-Ok.all.plan))) (λ (text : List ℕ). text ≡ simulated_text (soc_value c.in-Ok.all.soc) (plan_value c.in-Ok.all.plan) c.args.seed) _ (g.H.Shelf.faults c.load_all.new.shelf) (g.H.Shelf.faults c.load_all.new.shelf) c.simulated-verdict.result c.simulated-verdict.ensures)
+    (unless_any (run_refusal (too_many c.in-Ok.all.plan)) (λ (text : List ℕ). text ≡ simulated_text c.in-Ok.all.soc c.in-Ok.all.plan c.args.seed) _ (g.H.Shelf.faults c.load_all.new.shelf) (g.H.Shelf.faults c.load_all.new.shelf) c.simulated-verdict.result c.simulated-verdict.ensures)
 
 pub returns-in-Err-clause-follows : goal.returns-in-Err-clause-follows
 returns-in-Err-clause-follows g c = not_all _ _ _ (λ chip bounds value. Unless (run_refusal (too_many value)) (done_with (simulated_text chip value c.args.seed))) _ _ _ _ c.in-Err.ensures.loads
 
 pub returns-in-Ok-clause-by_loads : goal.returns-in-Ok-clause-by_loads
 returns-in-Ok-clause-by_loads g c =
-    after_three g.H.Shelf.is_load c.args.soc.now c.args.limits.now c.args.plan.now (λ chip bounds value. Unless (run_refusal (too_many value)) (done_with (simulated_text chip value c.args.seed))) (soc_value c.in-Ok.all.soc) (limits_value c.in-Ok.all.limits) (plan_value c.in-Ok.all.plan) c.args.shelf.now c.load_all.new.shelf c.load_all.new.shelf c.simulated-verdict.result c.in-Ok.ensures.by_loads
-    (any_loaded g.H.Shelf.is_load (run_refusal (too_many (plan_value c.in-Ok.all.plan))) (λ (text : List ℕ). text ≡ simulated_text (soc_value c.in-Ok.all.soc) (plan_value c.in-Ok.all.plan) c.args.seed) c.simulated-verdict.result c.load_all.new.shelf c.simulated-verdict.ensures)
+    after_three g.H.Shelf.is_load c.args.soc.now c.args.limits.now c.args.plan.now (λ chip bounds value. Unless (run_refusal (too_many value)) (done_with (simulated_text chip value c.args.seed))) c.in-Ok.all.soc c.in-Ok.all.limits c.in-Ok.all.plan c.args.shelf.now c.load_all.new.shelf c.load_all.new.shelf c.simulated-verdict.result c.in-Ok.ensures.by_loads
+    (any_loaded g.H.Shelf.is_load (run_refusal (too_many c.in-Ok.all.plan)) (λ (text : List ℕ). text ≡ simulated_text c.in-Ok.all.soc c.in-Ok.all.plan c.args.seed) c.simulated-verdict.result c.load_all.new.shelf c.simulated-verdict.ensures)
 
 pub returns-in-Err-clause-by_loads : goal.returns-in-Err-clause-by_loads
 returns-in-Err-clause-by_loads g c = stops_all g.H.Shelf.is_load c.args.soc.now c.args.limits.now c.args.plan.now (λ chip bounds value. Unless (run_refusal (too_many value)) (done_with (simulated_text chip value c.args.seed))) c.args.shelf.now c.load_all.new.shelf c.in-Err.verdict c.in-Err.ensures.by_loads

@@ -1,5 +1,4 @@
-use Rattle.std.proofs.Common.{◌∙◌, false, ap, map, sym}
-use Rattle.std.specs.Prelude.{Vec}
+use Rattle.std.proofs.Common.{◌∙◌, false, ap, map, sym, Vec}
 use Rattle.std.specs.Global.{Global}
 use Rattle.std.proofs.lemmas.Option.{slice_get-get_or}
 use Rattle.soc_model.specs.declared.Test.{Test}
@@ -9,8 +8,8 @@ use Rattle.resource_table.specs.Jobs.{test_value}
 use Rattle.planner.specs.Jobs.{test_in}
 use Rattle.planner.specs.Sources.{chip_of, limits_of, plan_of}
 use Rattle.planner.proofs.LiveJobs.{test_added, test_left}
-use Rattle.planner.proofs.job.push_live.Goals as goal
 use Rattle.planner.proofs.job.push_live.Goals.{then-live+in_ok-entry+in_ok-push, else-live}
+use Rattle.planner.proofs.job.push_live.Goals as goal
 
 nothing : Test
 nothing = record { number = 0; scan = false; tam = false; patterns = 0; power = 0 }

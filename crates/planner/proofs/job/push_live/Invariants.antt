@@ -1,5 +1,4 @@
-use Rattle.std.proofs.Common.{◌≡◌, ◌++◌, map, take}
-use Rattle.std.specs.List.{filter}
+use Rattle.std.proofs.Common.{◌≡◌, ◌++◌, map, take, filter}
 use Rattle.soc_model.specs.Chips.{module_value, is_live}
 use Rattle.resource_table.specs.Jobs.{test_value}
 use Rattle.planner.specs.Jobs.{test_in}

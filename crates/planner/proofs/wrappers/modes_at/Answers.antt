@@ -1,5 +1,4 @@
-use Rattle.std.proofs.Common.{◌++◌, ℕ, true, map, take, arith}
-use Rattle.std.specs.List.{flat_map}
+use Rattle.std.proofs.Common.{◌++◌, ℕ, true, map, take, arith, flat_map}
 use Rattle.std.proofs.lemmas.List.{length-map}
 use Rattle.soc_model.specs.declared.Module.{Module}
 use Rattle.soc_model.specs.Chips.{soc_value, module_value}

@@ -1,5 +1,4 @@
-use Rattle.std.proofs.Common.{map, take}
-use Rattle.std.specs.List.{flat_map}
+use Rattle.std.proofs.Common.{map, take, flat_map}
 use Rattle.soc_model.specs.Chips.{soc_value}
 use Rattle.plan_model.specs.Views.{bus_value}
 use Rattle.planner.specs.Wrapping.{AreUsedModes}

@@ -1,5 +1,4 @@
-use Rattle.std.proofs.Common.{◌≡◌, ◌++◌, drop}
-use Rattle.std.specs.List.{flat_map}
+use Rattle.std.proofs.Common.{◌≡◌, ◌++◌, drop, flat_map}
 use Rattle.keyword_text.specs.Lines.{spaced_numbers}
 use Rattle.proof_text.specs.ProofLines.{test_numbers}
 use Rattle.proof_text.proofs.printing.push_tests.Given as goal

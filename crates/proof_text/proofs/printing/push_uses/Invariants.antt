@@ -1,5 +1,4 @@
-use Rattle.std.proofs.Common.{◌≡◌, ◌++◌, drop}
-use Rattle.std.specs.List.{flat_map}
+use Rattle.std.proofs.Common.{◌≡◌, ◌++◌, drop, flat_map}
 use Rattle.keyword_text.specs.Lines.{spaced}
 use Rattle.proof_text.specs.Tokens.{spelling}
 use Rattle.proof_text.specs.ProofLines.{use_tokens}

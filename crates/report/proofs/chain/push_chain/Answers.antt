@@ -1,5 +1,4 @@
-use Rattle.std.proofs.Common.{◌≡◌, ◌∙◌, ℕ, suc, ◌+◌, ◌-◌, ◌<◌, ◌++◌, List, length, ap, sym, subst, arith}
-use Rattle.std.specs.Prelude.{Option, IfSome}
+use Rattle.std.proofs.Common.{◌≡◌, ◌∙◌, ℕ, suc, ◌+◌, ◌-◌, ◌<◌, ◌++◌, List, length, ap, sym, subst, arith, Option, IfSome}
 use Rattle.soc_model.specs.Chips.{SocValue, soc_value}
 use Rattle.plan_model.specs.Plans.{LimitsValue, step_power}
 use Rattle.plan_model.specs.Views.{limits_value}

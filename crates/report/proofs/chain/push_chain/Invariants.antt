@@ -1,5 +1,4 @@
-use Rattle.std.proofs.Common.{◌≡◌, ◌-◌, ◌<◌, ◌++◌, length}
-use Rattle.std.specs.Prelude.{IfSome}
+use Rattle.std.proofs.Common.{◌≡◌, ◌-◌, ◌<◌, ◌++◌, length, IfSome}
 use Rattle.soc_model.specs.Chips.{soc_value}
 use Rattle.plan_model.specs.Plans.{step_power}
 use Rattle.plan_model.specs.Views.{limits_value}

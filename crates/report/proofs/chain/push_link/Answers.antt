@@ -1,5 +1,4 @@
-use Rattle.std.proofs.Common.{◌<◌, length, sym, subst}
-use Rattle.std.specs.Prelude.{Option, IfSome}
+use Rattle.std.proofs.Common.{◌<◌, length, sym, subst, Option, IfSome}
 use Rattle.soc_model.specs.Chips.{soc_value}
 use Rattle.plan_model.specs.Plans.{step_power}
 use Rattle.plan_model.specs.Views.{limits_value}

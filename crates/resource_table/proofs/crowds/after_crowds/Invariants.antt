@@ -1,6 +1,5 @@
 use Rattle.std.proofs.Common.{ℕ, ◌-◌, ◌<◌, ◌≤◌, length, get_or}
-use Rattle.resource_table.specs.Profiles.{no_point}
-use Rattle.resource_table.proofs.Sweeps.{IsSwept}
+use Rattle.resource_table.{specs.Profiles.no_point, proofs.Sweeps.IsSwept}
 use Rattle.resource_table.proofs.crowds.after_crowds.Given as goal
 
 abbrev pub invariant-crowds : goal.invariant-crowds

@@ -1,7 +1,6 @@
-use Rattle.std.proofs.Common.{◌≡◌, ◌+◌, ◌-◌, ◌<◌, ◌≤◌, ℕ, inl, inr, length, get_or, arith, subst}
+use Rattle.std.proofs.Common.{◌≡◌, ◌+◌, ◌-◌, ◌≤◌, inl, inr, get_or, arith}
 use Rattle.std.proofs.lemmas.Bool.{cases_lt}
-use Rattle.resource_table.specs.Profiles.{no_point}
-use Rattle.resource_table.proofs.Sweeps.{calm_more}
+use Rattle.resource_table.{specs.Profiles.no_point, proofs.Sweeps.calm_more}
 use Rattle.resource_table.proofs.crowds.calm_end.Goals as goal
 
 pub loop-place-init : goal.loop-place-init
@@ -16,13 +15,12 @@ pub loop-place-preserved : goal.loop-place-preserved
 loop-place-preserved c =
     let some = c.loop-place-test.true in
     let bound = c.loop-place.invariant.bound in
-    let most = c.loop-place.invariant.most in
     let low : (get_or c.args.points.now (c.loop-place.place - 1) no_point).load ≤ c.args.free = (let h = c.if-now-free.false in omega (arith, h)) in
     let place_is : c.loop-place.place ≡ c.loop-place.place - 1 + 1 = omega (arith, some) in
-    let ahead = subst (λ (n : ℕ). n < length c.args.points.now → c.loop-place.calm ≤ (get_or c.args.points.now n no_point).cycle) place_is c.loop-place.invariant.ahead in
+    let ahead = rw place_is at c.loop-place.invariant.ahead in
     record {
       bound = omega (arith, bound);
-      most = omega (arith, most, c.min-calm.ensures);
+      most = omega (arith, c.loop-place.invariant.most, c.min-calm.ensures);
       ahead = (λ inside. omega (arith, c.min-calm.ensures));
       calm = (λ load ended at late. elim (cases_lt at c.loop-place.calm) [
         | inr after ↦ c.loop-place.invariant.calm load ended at after

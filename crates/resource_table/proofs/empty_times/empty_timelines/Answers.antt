@@ -1,14 +1,8 @@
-use Rattle.std.proofs.Common.{ℕ, ◌<◌, Option, subst}
-use Rattle.std.specs.Prelude.{IfSome}
-use Rattle.std.specs.List.{All}
-use Rattle.resource_table.specs.declared.JobTest.{JobTest}
-use Rattle.resource_table.specs.Jobs.{test_value}
-use Rattle.resource_table.specs.BusyTimes.{timeline_of}
-use Rattle.resource_table.proofs.BusyTimes.{empty_kind}
+use Rattle.resource_table.{proofs.BusyTimes.empty_kind}
 use Rattle.resource_table.proofs.empty_times.empty_timelines.Goals as goal
 
 pub returns : goal.returns
 returns c =
     empty_kind c.args.kind c.args.tests.now c.in_ok-count.count c.in_ok-counts.counts.items c.deref.result.now c.timelines_of_rooms.result c.requires
-    (subst (λ (o : Option ℕ). IfSome o (λ count. All (λ (t : JobTest). IfSome (timeline_of c.args.kind (test_value t)) (λ k. k < count)) c.args.tests.now)) c.in_ok-count.ensures.ok_part c.count_timelines.ensures)
+    (rw c.in_ok-count.ensures.ok_part at c.count_timelines.ensures)
     c.in_ok-counts.ensures.long c.in_ok-counts.ensures.counts c.deref.ensures.value c.timelines_of_rooms.ensures.long c.timelines_of_rooms.ensures.empty c.timelines_of_rooms.ensures.room

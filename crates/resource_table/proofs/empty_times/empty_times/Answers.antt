@@ -1,6 +1,5 @@
-use Rattle.std.proofs.Common.{ℕ, ◌≤◌, ◌∙◌, subst, sym}
-use Rattle.std.specs.Prelude.{vec_capacity}
-use Rattle.std.proofs.lemmas.List.{length-map}
+use Rattle.std.proofs.Common.{◌∙◌}
+use Rattle.std.{proofs.lemmas.List.length-map}
 use Rattle.resource_table.specs.Jobs.{test_value}
 use Rattle.resource_table.proofs.empty_times.empty_times.Goals as goal
 
@@ -13,5 +12,5 @@ returns c =
       children = c.in_ok-children.ensures;
       latest = latest.ensures.ends ∙ c.len.ensures ∙ c.in_ok-children.children.ok.0;
       before = latest.ensures.before;
-      room = subst (λ (n : ℕ). n ≤ vec_capacity latest.latest.before) (sym (length-map c.args.tests.now test_value)) latest.ensures.room;
+      room = rw (length-map c.args.tests.now test_value) latest.ensures.room;
     }

@@ -1,5 +1,4 @@
-use Rattle.std.proofs.Common.{◌≡◌, ℕ, ◌≤◌, Some, [], length, get_or}
-use Rattle.std.specs.Prelude.{slice_get, vec_capacity}
+use Rattle.std.proofs.Common.{◌≡◌, ℕ, ◌≤◌, Some, [], length, get_or, slice_get, vec_capacity}
 use Rattle.resource_table.specs.declared.timelines.Timeline.{Timeline}
 use Rattle.resource_table.proofs.empty_times.timelines_of_rooms.Given as goal
 

@@ -1,7 +1,6 @@
-use Rattle.std.proofs.Common.{List, refl, length, drop, set, ap, ◌∙◌}
+use Rattle.std.proofs.Common.{refl, length, drop, set, ap, ◌∙◌}
 use Rattle.std.specs.Vec.{with_item}
-use Rattle.resource_table.specs.declared.history.Change.{Change}
-use Rattle.resource_table.specs.Histories.{at_change, rewound}
+use Rattle.resource_table.specs.{Histories.at_change, Histories.rewound}
 use Rattle.resource_table.proofs.Rewinding.{raised_back, same_past, renewed_history}
 use Rattle.resource_table.proofs.history.renew_note.Goals as goal
 
@@ -9,7 +8,7 @@ pub returns-then-len-capacity-clause-past : goal.returns-then-len-capacity-claus
 returns-then-len-capacity-clause-past c =
     let h = c.args.history.now in
     same_past (λ n. rewound (drop n c.push_reserved.new.self.items) (set h.values.items c.args.place c.args.value)) (at_change h) h.marks.items (length h.log.items)
-    (λ n le. ap (λ (v : List Change). rewound (drop n v) (set h.values.items c.args.place c.args.value)) c.push_reserved.ensures.items
+    (λ n le. ap (λ v. rewound (drop n v) (set h.values.items c.args.place c.args.value)) c.push_reserved.ensures.items
     ∙ raised_back h.log.items h.values.items c.args.place c.index-was.result.now c.args.value n c.index-was.result.now le c.index-was.ensures) c.requires.history.marks
 
 pub returns-then-len-capacity-clause-history : goal.returns-then-len-capacity-clause-history

@@ -1,6 +1,5 @@
-use Rattle.resource_table.proofs.Placed.{each_front, sound_tests}
+use Rattle.resource_table.proofs.{Placed.each_front, Placed.sound_tests, Schedules.next_list, Schedules.short_list, Schedules.fits_short}
 use Rattle.resource_table.specs.Schedules.{IsEarliest}
-use Rattle.resource_table.proofs.Schedules.{next_list, short_list, fits_short}
 use Rattle.resource_table.proofs.laws.list_schedules_are_short.Goals as goal
 
 pub returns : goal.returns

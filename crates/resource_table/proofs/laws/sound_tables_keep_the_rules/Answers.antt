@@ -1,5 +1,4 @@
-use Rattle.resource_table.proofs.Placed.{sound_tests}
-use Rattle.resource_table.proofs.Schedules.{sound_apart, sound_power, sound_order}
+use Rattle.resource_table.proofs.{Placed.sound_tests, Schedules.sound_apart, Schedules.sound_power, Schedules.sound_order}
 use Rattle.resource_table.proofs.laws.sound_tables_keep_the_rules.Goals as goal
 
 pub returns : goal.returns

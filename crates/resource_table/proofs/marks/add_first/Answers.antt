@@ -1,6 +1,5 @@
-use Rattle.std.proofs.Common.{◌≡◌, ◌∙◌, ◌+◌, ◌-◌, ◌++◌, ℕ, List, length, drop, arith, subst}
-use Rattle.resource_table.specs.Resources.{marks_from}
-use Rattle.resource_table.specs.Profiles.{ArePoints}
+use Rattle.std.proofs.Common.{◌≡◌, ◌∙◌, ◌+◌, ◌-◌, ◌++◌, drop, arith}
+use Rattle.resource_table.specs.{Resources.marks_from}
 use Rattle.resource_table.proofs.Marked.{length-marks, marks_split, marked_more, marks_and_left}
 use Rattle.resource_table.proofs.marks.add_first.Goals as goal
 
@@ -10,25 +9,22 @@ open_gap-spare-requires-clause-ordered c =
 
 pub loop-left-init : goal.loop-left-init
 loop-left-init c =
-    let marks : List ℕ = marks_from c.args.start (drop c.args.from c.args.draws.now) in
-    let count : length marks ≡ length c.args.draws.now - c.args.from + 1 = length-marks c.args.start c.args.from c.args.draws.now c.requires.from in
+    let marks = marks_from c.args.start (drop c.args.from c.args.draws.now) in
     record {
-      most = omega (arith, count, c.requires.first);
+      most = omega (arith, length-marks c.args.start c.args.from c.args.draws.now c.requires.from, c.requires.first);
       points = (λ held cycles marked old. c.open_gap-spare.ensures.points held (drop c.args.first marks ++ cycles) (c.make_room.ensures.points held (drop c.args.first marks ++ cycles) old));
       capacity = c.open_gap-spare.ensures.capacity ∙ c.make_room.ensures.capacity;
     }
 
 pub add_next_mark-requires-clause-room : goal.add_next_mark-requires-clause-room
 add_next_mark-requires-clause-room c =
-    let marks : List ℕ = marks_from c.args.start (drop c.args.from c.args.draws.now) in
-    let count : length marks ≡ length c.args.draws.now - c.args.from + 1 = length-marks c.args.start c.args.from c.args.draws.now c.requires.from in
-    let some = c.loop-left-test.true in
-    let capacity = c.loop-left.invariant.capacity in
+    let marks = marks_from c.args.start (drop c.args.from c.args.draws.now) in
+    let count = length-marks c.args.start c.args.from c.args.draws.now c.requires.from in
     let held = c.requires.points.0 in
-    let cycles : List ℕ = c.requires.points.1 in
+    let cycles = c.requires.points.1 in
     let before = marks_and_left held marks cycles c.args.points.now.items c.args.first (omega (arith, count, c.requires.first)) c.requires.points.3 in
     let now = marks_and_left held marks cycles c.loop-left.points.items c.loop-left.left c.loop-left.invariant.most (c.loop-left.invariant.points held cycles c.requires.points.2 c.requires.points.3) in
-    omega (arith, before, now, some, capacity, c.requires.room)
+    omega (arith, before, now, c.loop-left-test.true, c.loop-left.invariant.capacity, c.requires.room)
 
 pub add_next_mark-requires-clause-points : goal.add_next_mark-requires-clause-points
 add_next_mark-requires-clause-points c = (
@@ -39,16 +35,15 @@ add_next_mark-requires-clause-points c = (
 
 pub loop-left-preserved : goal.loop-left-preserved
 loop-left-preserved c =
-    let marks : List ℕ = marks_from c.args.start (drop c.args.from c.args.draws.now) in
-    let more : ℕ = c.loop-left.left - 1 in
-    let some = c.loop-left-test.true in
+    let marks = marks_from c.args.start (drop c.args.from c.args.draws.now) in
+    let more = c.loop-left.left - 1 in
     let most = c.loop-left.invariant.most in
-    let left_is : c.loop-left.left ≡ more + 1 = omega (arith, some) in
+    let left_is : c.loop-left.left ≡ more + 1 = omega (arith, c.loop-left-test.true) in
     record {
       most = omega (arith, most);
       points = (λ held cycles marked old.
-          let before : ArePoints held (drop (more + 1) marks ++ cycles) c.loop-left.points.items = subst (λ (n : ℕ). ArePoints held (drop n marks ++ cycles) c.loop-left.points.items) left_is (c.loop-left.invariant.points held cycles marked old) in
+          let before = rw left_is at (c.loop-left.invariant.points held cycles marked old) in
           let added = c.add_next_mark.ensures.points held (drop (more + 1) marks ++ cycles) (marked_more held (drop (more + 1) marks) cycles marked) before in
-          subst (λ (v : List ℕ). ArePoints held v c.add_next_mark.new.points.items) (marks_split marks cycles more c.mark_at-cycle.result (omega (arith, left_is, most)) c.mark_at-cycle.ensures) added);
+          rw (marks_split marks cycles more c.mark_at-cycle.result (omega (arith, left_is, most)) c.mark_at-cycle.ensures) at added);
       capacity = c.add_next_mark.ensures.capacity ∙ c.loop-left.invariant.capacity;
     }

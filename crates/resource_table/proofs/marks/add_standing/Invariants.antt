@@ -1,7 +1,5 @@
 use Rattle.std.proofs.Common.{◌≡◌, ◌++◌, ◌≤◌, ℕ, List, length, drop, vec_capacity}
-use Rattle.resource_table.specs.declared.power.Draw.{Draw}
-use Rattle.resource_table.specs.Resources.{marks_from}
-use Rattle.resource_table.specs.Profiles.{ArePoints}
+use Rattle.resource_table.specs.{declared.power.Draw.Draw, Resources.marks_from, Profiles.ArePoints}
 use Rattle.resource_table.proofs.marks.add_standing.Given as goal
 
 abbrev pub invariant-loop-left : goal.invariant-loop-left

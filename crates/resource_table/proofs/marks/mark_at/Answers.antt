@@ -1,8 +1,6 @@
 use Rattle.std.proofs.Common.{◌≡◌, ◌+◌, ◌-◌, ℕ, zero, suc, List, length, get_or, drop, arith, sym, ap, ◌∙◌}
-use Rattle.std.specs.Prelude.{◌≤◌}
-use Rattle.std.proofs.lemmas.List.{get_or-map, get_or-drop, length-drop}
-use Rattle.resource_table.specs.declared.power.Draw.{Draw}
-use Rattle.resource_table.specs.Resources.{marks_from}
+use Rattle.std.{specs.Prelude.◌≤◌, proofs.lemmas.List.get_or-map, proofs.lemmas.List.get_or-drop, proofs.lemmas.List.length-drop}
+use Rattle.resource_table.specs.{declared.power.Draw.Draw, Resources.marks_from}
 use Rattle.resource_table.proofs.marks.mark_at.Goals as goal
 
 abbrev no_draw : Draw
@@ -13,7 +11,7 @@ end_at : (draws : List Draw) (from start at : ℕ) → 1 ≤ at → from + at �
 end_at draws from start zero some le = absurd (omega arith)
 end_at draws from start (suc n) some le =
     let place : from + suc n - 1 ≡ from + n = omega arith in
-    ap (λ (k : ℕ). (get_or draws k no_draw).to) place ∙ ap (λ (d : Draw). d.to) (sym (get_or-drop from draws n no_draw)) ∙ sym (get_or-map (λ (d : Draw). d.to) (drop from draws) n no_draw 0 (omega (arith, length-drop from draws)))
+    ap (λ k. (get_or draws k no_draw).to) place ∙ ap (λ (d : Draw). d.to) (sym (get_or-drop from draws n no_draw)) ∙ sym (get_or-map (λ (d : Draw). d.to) (drop from draws) n no_draw 0 (omega (arith, length-drop from draws)))
 
 pub returns-else-at-eq0 : goal.returns-else-at-eq0
 returns-else-at-eq0 c = end_at c.args.draws.now c.args.from c.args.start c.args.at (let some = c.if-at-eq0.false in omega arith) c.requires

@@ -1,20 +1,14 @@
-use Rattle.std.proofs.Common.{◌<◌, ◌≤◌, ◌+◌, ◌-◌, ℕ, List, length, arith, rules, sym, subst}
-use Rattle.std.specs.List.Sorted.{IsPartitionPoint}
-use Rattle.resource_table.specs.declared.points.Point.{Point}
-use Rattle.resource_table.specs.Profiles.{ArePoints}
-use Rattle.resource_table.proofs.Profiles.{mark_removed}
+use Rattle.std.proofs.Common.{◌<◌, ◌+◌, ◌-◌, length, arith, rules}
+use Rattle.resource_table.{proofs.Profiles.mark_removed}
 use Rattle.resource_table.proofs.Marked.{mark_from, mark_behind, mark_cycle, mark_used}
 use Rattle.resource_table.proofs.marks.remove_mark.Goals as goal
 
 pub loop-place-init : goal.loop-place-init
 loop-place-init c =
-    let items : List Point = c.args.points.now.items in
-    let cycle : ℕ = c.args.cycle in
-    let place : ℕ = c.places_before_near-place.result in
-    let parts : IsPartitionPoint (λ (p : Point). p.cycle < cycle) (λ (p : Point). cycle ≤ p.cycle) items place = subst (λ (v : List Point). IsPartitionPoint (λ (p : Point). p.cycle < cycle) (λ (p : Point). cycle ≤ p.cycle) v place) c.deref.ensures.value c.places_before_near-place.ensures.parts in
+    let parts = rw c.deref.ensures.value at c.places_before_near-place.ensures.parts in
     record {
       late = (λ k d low high. parts.1 k d low high);
-      there = mark_from cycle place items parts c.requires.there;
+      there = mark_from c.args.cycle c.places_before_near-place.result c.args.points.now.items parts c.requires.there;
     }
 
 pub index-requires : goal.index-requires
@@ -22,12 +16,12 @@ index-requires c = omega (arith, c.args.points.now.ok.0, (mark_cycle c.args.cycl
 
 pub overflow_add-place : goal.overflow_add-place
 overflow_add-place c =
-    let lt : c.loop-place.place < length c.args.points.now.items = (mark_cycle c.args.cycle c.loop-place.place c.args.points.now.items c.requires.ordered c.loop-place.invariant.late c.loop-place.invariant.there).0 in
+    let lt = (mark_cycle c.args.cycle c.loop-place.place c.args.points.now.items c.requires.ordered c.loop-place.invariant.late c.loop-place.invariant.there).0 in
     search rules
 
 pub loop-place-smaller : goal.loop-place-smaller
 loop-place-smaller c =
-    let lt : c.loop-place.place < length c.args.points.now.items = (mark_cycle c.args.cycle c.loop-place.place c.args.points.now.items c.requires.ordered c.loop-place.invariant.late c.loop-place.invariant.there).0 in
+    let lt = (mark_cycle c.args.cycle c.loop-place.place c.args.points.now.items c.requires.ordered c.loop-place.invariant.late c.loop-place.invariant.there).0 in
     let less : length c.args.points.now.items - (c.loop-place.place + 1) < length c.args.points.now.items - c.loop-place.place = omega (arith, lt) in
     search rules
 
@@ -46,8 +40,8 @@ use_less-requires-clause-some c =
 
 pub returns-clause-points : goal.returns-clause-points
 returns-clause-points c = λ held cycles are.
-    let items : List Point = c.args.points.now.items in
-    let place : ℕ = c.loop-place.place in
+    let items = c.args.points.now.items in
+    let place = c.loop-place.place in
     let here = mark_cycle c.args.cycle place items c.requires.ordered c.loop-place.invariant.late c.loop-place.invariant.there in
     let some = mark_used place items c.index.result.now here.0 c.index.ensures c.loop-place-test.false in
-    subst (ArePoints held cycles) (sym c.use_less.ensures.items) (mark_removed held cycles items place c.args.cycle are here.0 here.1 some)
+    rw c.use_less.ensures.items (mark_removed held cycles items place c.args.cycle are here.0 here.1 some)

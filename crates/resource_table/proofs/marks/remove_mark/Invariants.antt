@@ -1,6 +1,5 @@
 use Rattle.std.proofs.Common.{◌≡◌, ◌-◌, ◌≤◌, ℕ, Some, length}
-use Rattle.std.specs.Prelude.{slice_get}
-use Rattle.std.specs.List.{AllWithin}
+use Rattle.std.specs.{Prelude.slice_get, List.AllWithin}
 use Rattle.resource_table.specs.declared.points.Point.{Point}
 use Rattle.resource_table.proofs.marks.remove_mark.Given as goal
 

@@ -1,7 +1,5 @@
 use Rattle.std.proofs.Common.{◌≡◌, ◌-◌, ◌++◌, ◌≤◌, ℕ, List, length, drop, vec_capacity}
-use Rattle.resource_table.specs.declared.power.Draw.{Draw}
-use Rattle.resource_table.specs.Resources.{marks_from}
-use Rattle.resource_table.specs.Profiles.{ArePoints}
+use Rattle.resource_table.specs.{declared.power.Draw.Draw, Resources.marks_from, Profiles.ArePoints}
 use Rattle.resource_table.proofs.marks.remove_marks.Given as goal
 
 abbrev pub invariant-loop-gone : goal.invariant-loop-gone

@@ -4,9 +4,8 @@ use Rattle.resource_table.proofs.points.count_used.Goals as goal
 
 pub loop-count-preserved : goal.loop-count-preserved
 loop-count-preserved c =
-    let some = c.loop-count-test.true in
     let bound = c.loop-count.invariant.bound in
     record {
       bound = omega (arith, bound);
-      unused = unused_more c.args.points.now c.loop-count.count some bound c.if-points-count-ne0.false c.loop-count.invariant.unused;
+      unused = unused_more c.args.points.now c.loop-count.count c.loop-count-test.true bound c.if-points-count-ne0.false c.loop-count.invariant.unused;
     }

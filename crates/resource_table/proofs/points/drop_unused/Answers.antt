@@ -1,5 +1,4 @@
-use Rattle.std.proofs.Common.{rules}
-use Rattle.std.proofs.lemmas.List.Elements.{filter_from_retain}
+use Rattle.std.proofs.{Common.rules, lemmas.List.Elements.filter_from_retain}
 use Rattle.resource_table.specs.Profiles.{is_used}
 use Rattle.resource_table.proofs.points.drop_unused.Goals as goal
 

@@ -1,10 +1,9 @@
-use Rattle.std.proofs.Common.{ℕ, ◌<◌, get_or, arith, subst}
-use Rattle.resource_table.specs.Profiles.{no_point}
-use Rattle.resource_table.proofs.Near.{parts_near}
+use Rattle.std.proofs.Common.{◌<◌, get_or, arith, subst}
+use Rattle.resource_table.{specs.Profiles.no_point, proofs.Near.parts_near}
 use Rattle.resource_table.proofs.points.places_before_near.Goals as goal
 
 pub places_from-requires-clause-ahead : goal.places_from-requires-clause-ahead
-places_from-requires-clause-ahead c some = subst (λ (n : ℕ). (get_or c.args.points.now n no_point).cycle < c.args.cycle) (omega arith) (c.is_early.ensures.early c.if-is_early.true).1
+places_from-requires-clause-ahead c some = subst (λ n. (get_or c.args.points.now n no_point).cycle < c.args.cycle) (omega arith) (c.is_early.ensures.early c.if-is_early.true).1
 
 pub returns-then-is_early-clause-parts : goal.returns-then-is_early-clause-parts
 returns-then-is_early-clause-parts c = parts_near c.args.points.now c.args.cycle c.places_from.result c.requires c.places_from.ensures.bound c.places_from.ensures.late c.places_from.ensures.ahead

@@ -1,6 +1,5 @@
 use Rattle.std.proofs.Common.{ℕ, ◌-◌, ◌<◌, ◌≤◌, length}
-use Rattle.resource_table.specs.Resources.{StepsFit, StepFits}
-use Rattle.resource_table.specs.Profiles.{IsEndedProfile}
+use Rattle.resource_table.specs.{Resources.StepsFit, Resources.StepFits, Profiles.IsEndedProfile}
 use Rattle.resource_table.proofs.power.after_steps.Given as goal
 
 -- the step at the place fits, where there is one

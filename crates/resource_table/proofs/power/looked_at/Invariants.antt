@@ -1,6 +1,5 @@
 use Rattle.std.proofs.Common.{◌<◌, ◌≤◌, ℕ}
-use Rattle.resource_table.specs.Resources.{StepFits}
-use Rattle.resource_table.specs.Profiles.{IsEndedProfile}
+use Rattle.resource_table.specs.{Resources.StepFits, Profiles.IsEndedProfile}
 use Rattle.resource_table.proofs.power.looked_at.Given as goal
 
 -- the steps before fit

@@ -1,8 +1,6 @@
-use Rattle.std.proofs.Common.{◌++◌, ◌∙◌, List, drop, take, arith, subst}
+use Rattle.std.proofs.Common.{◌++◌, ◌∙◌, drop, take, arith}
 use Rattle.std.proofs.lemmas.List.{take_all}
-use Rattle.resource_table.specs.declared.power.Draw.{Draw}
-use Rattle.resource_table.specs.Resources.{marks_from}
-use Rattle.resource_table.specs.Profiles.{ArePoints}
+use Rattle.resource_table.specs.{declared.power.Draw.Draw, Resources.marks_from}
 use Rattle.resource_table.proofs.Profiles.{loads_fit, next_added}
 use Rattle.resource_table.proofs.profile.add_draws.Goals as goal
 
@@ -33,4 +31,4 @@ loop-at-preserved c = record {
 
 pub returns-clause-points : goal.returns-clause-points
 returns-clause-points c = λ cycles marked are.
-    subst (λ (v : List Draw). ArePoints v (marks_from c.args.start (drop c.args.from c.args.draws.now) ++ cycles) c.loop-at.points.items) (take_all c.loop-at.at c.args.draws.now (let ended = c.loop-at-test.false in omega arith)) (c.loop-at.invariant.points cycles marked are)
+    rw (take_all c.loop-at.at c.args.draws.now (let ended = c.loop-at-test.false in omega arith)) at (c.loop-at.invariant.points cycles marked are)

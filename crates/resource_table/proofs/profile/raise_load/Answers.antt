@@ -13,6 +13,5 @@ returns-then-index-draw-clause-items c =
 
 pub returns-clause-items : goal.returns-clause-items
 returns-clause-items c =
-    let are = c.loop-place.invariant.raised in
-    raised_all c.args.draw.now c.args.points.now.items c.loop-place.points.items c.loop-place.place are
+    raised_all c.args.draw.now c.args.points.now.items c.loop-place.points.items c.loop-place.place c.loop-place.invariant.raised
     (over_from c.args.points.now.items c.loop-place.place c.args.draw.now.to c.requires.ordered (λ lt. absurd (let ended = c.loop-place-test.false in let all = c.len-place-end.ensures in omega (arith, lt, ended, all, c.args.points.now.ok.0))))

@@ -1,9 +1,6 @@
-use Rattle.std.proofs.Common.{◌≡◌, ◌≤◌, ◌++◌, ◌+◌, ◌-◌, ◌∙◌, ℕ, List, length, drop, take, arith, get_or, refl, sym, subst}
+use Rattle.std.proofs.Common.{◌≡◌, ◌≤◌, ◌++◌, ◌+◌, ◌-◌, ◌∙◌, ℕ, List, length, drop, take, arith, get_or, refl, subst}
 use Rattle.std.proofs.lemmas.List.{take_all}
-use Rattle.resource_table.specs.declared.power.Draw.{Draw}
-use Rattle.resource_table.specs.declared.points.Point.{Point}
-use Rattle.resource_table.specs.Resources.{marks_from}
-use Rattle.resource_table.specs.Profiles.{ArePoints}
+use Rattle.resource_table.specs.{declared.power.Draw.Draw, declared.points.Point.Point, Resources.marks_from, Profiles.ArePoints}
 use Rattle.resource_table.proofs.Profiles.{last_split, loads_cover, draw_taken}
 use Rattle.resource_table.proofs.profile.take_draws.Goals as goal
 
@@ -12,13 +9,13 @@ no_draw = record { from = 0; to = 0; power = 0 }
 
 -- the points up to a draw, split at it
 split : (draws : List Draw) (cycles : List ℕ) (at : ℕ) (points : List Point) → 1 ≤ at → ArePoints (take at draws) cycles points → ArePoints (take (at - 1 + 1) draws) cycles points
-split draws cycles at points some are = subst (λ (n : ℕ). ArePoints (take n draws) cycles points) (let e : at ≡ at - 1 + 1 = omega arith in e) are
+split draws cycles at points some are = subst (λ n. ArePoints (take n draws) cycles points) (let e : at ≡ at - 1 + 1 = omega arith in e) are
 
 pub loop-at-init : goal.loop-at-init
 loop-at-init c = record {
   most = omega arith;
   least = c.requires.count;
-  points = (λ cycles are. subst (λ (v : List Draw). ArePoints v (marks_from c.args.start (drop c.args.count c.args.draws.now) ++ cycles) c.args.points.now.items) (sym (take_all (length c.args.draws.now) c.args.draws.now (omega arith))) are);
+  points = (λ cycles are. rw (take_all (length c.args.draws.now) c.args.draws.now (omega arith)) are);
   capacity = refl;
 }
 
@@ -27,16 +24,16 @@ lower_load-near-requires-clause-ordered c = (c.loop-at.invariant.points c.requir
 
 pub lower_load-near-requires-clause-covers : goal.lower_load-near-requires-clause-covers
 lower_load-near-requires-clause-covers c =
-    let marks : List ℕ = marks_from c.args.start (drop c.args.count c.args.draws.now) ++ c.requires.points.0 in
-    let at : ℕ = c.loop-at.at - 1 in
+    let marks = marks_from c.args.start (drop c.args.count c.args.draws.now) ++ c.requires.points.0 in
+    let at = c.loop-at.at - 1 in
     let most = c.loop-at.invariant.most in
     let more = c.loop-at-test.true in
-    let are : ArePoints (take (at + 1) c.args.draws.now) marks c.loop-at.points.items = split c.args.draws.now marks c.loop-at.at c.loop-at.points.items (omega arith) (c.loop-at.invariant.points c.requires.points.0 c.requires.points.1) in
+    let are = split c.args.draws.now marks c.loop-at.at c.loop-at.points.items (omega arith) (c.loop-at.invariant.points c.requires.points.0 c.requires.points.1) in
     loads_cover (take at c.args.draws.now) marks (get_or c.args.draws.now at no_draw) c.loop-at.points.items (last_split c.args.draws.now marks at no_draw c.loop-at.points.items (omega arith) are)
 
 pub loop-at-preserved : goal.loop-at-preserved
 loop-at-preserved c =
-    let at : ℕ = c.loop-at.at - 1 in
+    let at = c.loop-at.at - 1 in
     let most = c.loop-at.invariant.most in
     let least = c.loop-at.invariant.least in
     let more = c.loop-at-test.true in
@@ -44,8 +41,8 @@ loop-at-preserved c =
       most = omega arith;
       least = omega arith;
       points = (λ cycles old.
-          let marks : List ℕ = marks_from c.args.start (drop c.args.count c.args.draws.now) ++ cycles in
-          let are : ArePoints (take (at + 1) c.args.draws.now) marks c.loop-at.points.items = split c.args.draws.now marks c.loop-at.at c.loop-at.points.items (omega arith) (c.loop-at.invariant.points cycles old) in
+          let marks = marks_from c.args.start (drop c.args.count c.args.draws.now) ++ cycles in
+          let are = split c.args.draws.now marks c.loop-at.at c.loop-at.points.items (omega arith) (c.loop-at.invariant.points cycles old) in
           draw_taken (take at c.args.draws.now) marks (get_or c.args.draws.now at no_draw) c.lower_load-near.new.points.items c.loop-at.points.items (last_split c.args.draws.now marks at no_draw c.loop-at.points.items (omega arith) are) c.lower_load-near.ensures.items);
       capacity = c.lower_load-near.ensures.capacity ∙ c.loop-at.invariant.capacity;
     }
@@ -58,5 +55,5 @@ returns-clause-points c = λ cycles old.
     let least = c.loop-at.invariant.least in
     let ended = c.loop-at-test.false in
     let same : c.loop-at.at ≡ c.args.count = omega arith in
-    let are = subst (λ (n : ℕ). ArePoints (take n c.args.draws.now) (marks_from c.args.start (drop c.args.count c.args.draws.now) ++ cycles) c.loop-at.points.items) same (c.loop-at.invariant.points cycles old) in
+    let are = rw same at (c.loop-at.invariant.points cycles old) in
     c.remove_marks.ensures.points (take c.args.count c.args.draws.now) cycles are

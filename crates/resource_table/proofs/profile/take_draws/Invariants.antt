@@ -1,6 +1,5 @@
 use Rattle.std.proofs.Common.{◌≡◌, ◌++◌, ◌-◌, ◌≤◌, ℕ, List, length, drop, take, vec_capacity}
-use Rattle.resource_table.specs.Resources.{marks_from}
-use Rattle.resource_table.specs.Profiles.{ArePoints}
+use Rattle.resource_table.specs.{Resources.marks_from, Profiles.ArePoints}
 use Rattle.resource_table.proofs.profile.take_draws.Given as goal
 
 abbrev pub invariant-loop-at : goal.invariant-loop-at

@@ -1,5 +1,4 @@
-use Rattle.std.proofs.Common.{◌≡◌, take, length}
-use Rattle.std.specs.List.{sum_by}
+use Rattle.std.{proofs.Common.◌≡◌, proofs.Common.take, proofs.Common.length, specs.List.sum_by}
 use Rattle.resource_table.specs.declared.JobTest.{JobTest}
 use Rattle.resource_table.proofs.table.count_steps.Given as goal
 

@@ -1,9 +1,8 @@
-use Rattle.std.proofs.Common.{◌≡◌, ℕ, ◌≤◌, ◌⊎◌, inl, inr, None, get_or, take, sym, subst, arith}
-use Rattle.std.specs.Prelude.{slice_index_or, unwrap_or}
-use Rattle.std.specs.List.{Contains}
+use Rattle.std.proofs.Common.{ℕ, ◌≤◌, inl, inr, None, get_or, take, arith}
+use Rattle.std.specs.{Prelude.slice_index_or, Prelude.unwrap_or}
 use Rattle.std.proofs.lemmas.List.Elements.{All-more, All-weaker, Contains-get_or}
-use Rattle.resource_table.proofs.table.latest_end.Goals as goal
 use Rattle.common_lemmas.proofs.Lists.{all_whole}
+use Rattle.resource_table.proofs.table.latest_end.Goals as goal
 
 pub loop-test-preserved : goal.loop-test-preserved
 loop-test-preserved c =
@@ -13,7 +12,7 @@ loop-test-preserved c =
     record {
       latest = All-more Q c.args.tests.now c.loop-test.test-index 0 c.loop-test-test.true (All-weaker P Q (λ test h. omega (arith, h, e.from)) (take c.loop-test.test-index c.args.tests.now) c.loop-test.invariant.latest) e.end;
       is = elim e.is [
-        | inl same ↦ subst (λ (v : ℕ). (v ≡ 0) ⊎ ((test : ℕ) × Contains c.args.tests.now test × (v ≡ unwrap_or (slice_index_or c.args.ends.now test None) 0))) (sym same) c.loop-test.invariant.is
+        | inl same ↦ rw same c.loop-test.invariant.is
         | inr new ↦ inr (get_or c.args.tests.now c.loop-test.test-index 0, Contains-get_or c.args.tests.now c.loop-test.test-index 0 c.loop-test-test.true, new)
       ];
     }

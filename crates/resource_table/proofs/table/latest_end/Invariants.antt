@@ -1,6 +1,5 @@
 use Rattle.std.proofs.Common.{◌≡◌, ℕ, ◌≤◌, ◌⊎◌, None, take}
-use Rattle.std.specs.Prelude.{slice_index_or, unwrap_or}
-use Rattle.std.specs.List.{All, Contains}
+use Rattle.std.specs.{Prelude.slice_index_or, Prelude.unwrap_or, List.All, List.Contains}
 use Rattle.resource_table.proofs.table.latest_end.Given as goal
 
 abbrev pub invariant-loop-test : goal.invariant-loop-test

@@ -1,19 +1,16 @@
-use Rattle.std.proofs.Common.{◌≡◌, ℕ, Option, List, arith, sym, subst}
-use Rattle.resource_table.specs.declared.timelines.Timeline.{Timeline}
-use Rattle.resource_table.specs.BusyTimes.{AreFree}
+use Rattle.std.proofs.Common.{◌≡◌, ℕ, Option, List, arith, sym}
+use Rattle.resource_table.specs.{declared.timelines.Timeline.Timeline, BusyTimes.AreFree}
 use Rattle.resource_table.proofs.timelines.after_busy.Goals as goal
 
 -- timelines that were read
 free_of : (lines read : List Timeline) (place : Option ℕ) (length' start : ℕ) → read ≡ lines → AreFree lines place length' start → AreFree read place length' start
-free_of lines read place length' start is free = subst (λ (v : List Timeline). AreFree v place length' start) (sym is) free
+free_of lines read place length' start is free = rw is free
 
 pub starts-preserved : goal.starts-preserved
 starts-preserved c =
     let from = c.starts.invariant.from in
-    let later = c.after_alone-bus.ensures.from in
-    let last = c.after_modules-next.ensures.from in
     record {
-      from = omega (arith, from, later, last);
+      from = omega (arith, from, c.after_alone-bus.ensures.from, c.after_modules-next.ensures.from);
       most = c.after_modules-next.ensures.most;
       least = (λ other le free. c.after_modules-next.ensures.least other (c.after_alone-bus.ensures.least other (c.starts.invariant.least other le free) (free_of c.args.times.now.buses.items c.deref.result.now c.args.test.now.bus c.args.test.now.length other c.deref.ensures.value free.bus)) free);
     }

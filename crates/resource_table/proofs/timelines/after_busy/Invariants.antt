@@ -1,6 +1,5 @@
 use Rattle.std.proofs.Common.{ℕ, ◌-◌, ◌≤◌}
-use Rattle.resource_table.specs.Jobs.{test_value}
-use Rattle.resource_table.specs.BusyTimes.{IsFree}
+use Rattle.resource_table.specs.{Jobs.test_value, BusyTimes.IsFree}
 use Rattle.resource_table.proofs.timelines.after_busy.Given as goal
 
 abbrev pub invariant-starts : goal.invariant-starts

@@ -1,7 +1,5 @@
-use Rattle.std.proofs.Common.{ℕ, ◌≤◌}
-use Rattle.std.specs.List.{All, AllWithin}
-use Rattle.resource_table.specs.declared.timelines.Span.{Span}
-use Rattle.resource_table.specs.BusyTimes.{IsClear}
+use Rattle.std.{proofs.Common.ℕ, proofs.Common.◌≤◌, specs.List.All, specs.List.AllWithin}
+use Rattle.resource_table.specs.{declared.timelines.Span.Span, BusyTimes.IsClear}
 use Rattle.resource_table.proofs.timelines.after_spans.Given as goal
 
 abbrev pub invariant-loop-place : goal.invariant-loop-place

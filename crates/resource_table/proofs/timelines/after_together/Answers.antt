@@ -1,29 +1,25 @@
-use Rattle.std.proofs.Common.{◌≡◌, ◌≤◌, Some, ◌∙◌, refl, sym, subst}
-use Rattle.std.specs.List.{All}
-use Rattle.std.specs.List.Sorted.{IsNonDecreasingBy}
-use Rattle.resource_table.specs.declared.timelines.Span.{Span}
-use Rattle.resource_table.specs.BusyTimes.{IsClear}
-use Rattle.resource_table.proofs.Spans.{same_line}
-use Rattle.resource_table.proofs.timelines.after_together.Goals as goal
+use Rattle.std.proofs.Common.{Some, ◌∙◌, refl, sym}
+use Rattle.resource_table.{proofs.Spans.same_line}
 use Rattle.common_lemmas.proofs.Lists.{slice_at}
+use Rattle.resource_table.proofs.timelines.after_together.Goals as goal
 
 pub after_spans-requires-clause-starts : goal.after_spans-requires-clause-starts
 after_spans-requires-clause-starts c =
     let there = slice_at c.args.lines.now c.args.place c.in-Some.line.now c.in-Some.ensures.lookup.3.0 c.in-Some.ensures.lookup.1 in
-    subst (IsNonDecreasingBy (λ (s : Span). s.from)) (sym c.deref.ensures.value) (c.requires.starts c.args.place c.in-Some.line.now there)
+    rw c.deref.ensures.value (c.requires.starts c.args.place c.in-Some.line.now there)
 
 pub after_spans-requires-clause-ends : goal.after_spans-requires-clause-ends
 after_spans-requires-clause-ends c =
     let there = slice_at c.args.lines.now c.args.place c.in-Some.line.now c.in-Some.ensures.lookup.3.0 c.in-Some.ensures.lookup.1 in
-    subst (All (λ (s : Span). s.to ≤ c.args.last)) (sym c.deref.ensures.value) (c.requires.ends c.args.place c.in-Some.line.now there)
+    rw c.deref.ensures.value (c.requires.ends c.args.place c.in-Some.line.now there)
 
 pub returns-clause-clear : goal.returns-clause-clear
 returns-clause-clear c k line place_is line_at =
     let there = slice_at c.args.lines.now c.args.place c.in-Some.line.now c.in-Some.ensures.lookup.3.0 c.in-Some.ensures.lookup.1 in
-    let same : line.spans.items ≡ c.in-Some.line.now.spans.items = same_line c.args.lines.now (Some c.args.place) c.args.place k c.in-Some.line.now line refl there place_is line_at in
-    subst (All (IsClear c.args.length c.after_spans.result)) (c.deref.ensures.value ∙ sym same) c.after_spans.ensures.clear
+    let same = same_line c.args.lines.now (Some c.args.place) c.args.place k c.in-Some.line.now line refl there place_is line_at in
+    rw (c.deref.ensures.value ∙ sym same) at c.after_spans.ensures.clear
 
 pub returns-clause-least : goal.returns-clause-least
 returns-clause-least c other later free =
     let there = slice_at c.args.lines.now c.args.place c.in-Some.line.now c.in-Some.ensures.lookup.3.0 c.in-Some.ensures.lookup.1 in
-    c.after_spans.ensures.least other later (subst (All (IsClear c.args.length other)) (sym c.deref.ensures.value) (free c.args.place c.in-Some.line.now refl there))
+    c.after_spans.ensures.least other later (rw c.deref.ensures.value (free c.args.place c.in-Some.line.now refl there))

@@ -1,18 +1,15 @@
-use Rattle.std.proofs.Common.{◌≡◌, ℕ, ◌+◌, ◌<◌, ◌≤◌, List, Some, inl, inr, get_or, length, ap, subst, arith}
-use Rattle.std.specs.Prelude.{slice_get}
-use Rattle.std.proofs.lemmas.Bool.{cases_lt}
-use Rattle.std.proofs.lemmas.Option.{slice_get_within, get_or_from_slice_get}
-use Rattle.resource_table.specs.declared.timelines.Span.{Span}
-use Rattle.resource_table.proofs.Spans.{same_time}
-use Rattle.resource_table.proofs.timelines.place_of.Goals as goal
+use Rattle.std.proofs.Common.{◌≡◌, ℕ, ◌+◌, ◌<◌, ◌≤◌, List, Some, inl, inr, get_or, length, ap, arith}
+use Rattle.std.{specs.Prelude.slice_get, proofs.lemmas.Bool.cases_lt, proofs.lemmas.Option.slice_get_within, proofs.lemmas.Option.get_or_from_slice_get}
+use Rattle.resource_table.{specs.declared.timelines.Span.Span, proofs.Spans.same_time}
 use Rattle.common_lemmas.proofs.Lists.{any_default}
+use Rattle.resource_table.proofs.timelines.place_of.Goals as goal
 
 pub returns : goal.returns
 returns c =
     let spans = c.args.spans.now in
     let place = c.loop-place.place in
     let there = c.loop-place.invariant.there in
-    let read : Span = get_or spans place (record { from = 0; to = 0 }) in
+    let read = get_or spans place (record { from = 0; to = 0 }) in
     let within : place < length spans = (let le = there.1 in omega (arith, le, slice_get_within spans there.0 c.args.span there.2)) in
     same_time spans c.args.span read place there.0 c.requires.ordered c.loop-place.invariant.late there.1 there.2 (any_default spans place (record { from = 0; to = 0 }) read within) c.loop-place-test.false
 
@@ -20,7 +17,7 @@ returns c =
 behind : (spans : List Span) (place at : ℕ) (span : Span) → place ≤ at → slice_get spans at ≡ Some span → ((get_or spans place (record { from = 0; to = 0 })).to ≡ span.to → ⊥) → place + 1 ≤ at
 behind spans place at span le there apart = elim (cases_lt place at) [
   | inl before ↦ omega (arith, before)
-  | inr late ↦ absurd (apart (let same : at ≡ place = omega (arith, le, late) in ap (λ (s : Span). s.to) (get_or_from_slice_get spans place span (record { from = 0; to = 0 }) (subst (λ (n : ℕ). slice_get spans n ≡ Some span) same there))))
+  | inr late ↦ absurd (apart (let same : at ≡ place = omega (arith, le, late) in ap (λ (s : Span). s.to) (get_or_from_slice_get spans place span (record { from = 0; to = 0 }) (rw same at there))))
 ]
 
 pub loop-place-preserved : goal.loop-place-preserved

@@ -1,6 +1,5 @@
 use Rattle.std.proofs.Common.{◌≡◌, ℕ, ◌-◌, ◌≤◌, Some, length}
-use Rattle.std.specs.Prelude.{slice_get}
-use Rattle.std.specs.List.{AllWithin}
+use Rattle.std.specs.{Prelude.slice_get, List.AllWithin}
 use Rattle.resource_table.specs.declared.timelines.Span.{Span}
 use Rattle.resource_table.proofs.timelines.place_of.Given as goal
 

@@ -1,12 +1,10 @@
-use Rattle.std.proofs.Common.{◌≡◌, ◌∙◌, ◌-◌, List, Some, length, sym, subst}
-use Rattle.std.specs.Prelude.{slice_get}
-use Rattle.resource_table.specs.declared.timelines.Span.{Span}
-use Rattle.resource_table.proofs.Spans.{last_taken}
+use Rattle.std.proofs.Common.{◌∙◌, ◌-◌, length, sym}
+use Rattle.resource_table.{proofs.Spans.last_taken}
 use Rattle.resource_table.proofs.timelines.take_span.Goals as goal
 
 pub returns-then-stands_last-clause-taken : goal.returns-then-stands_last-clause-taken
 returns-then-stands_last-clause-taken c = record {
   place = length c.args.spans.now.items - 1;
-  there = subst (λ (v : List Span). slice_get v (length v - 1) ≡ Some c.args.span) c.deref.ensures.value (c.stands_last.ensures c.if-stands_last.true);
+  there = rw c.deref.ensures.value at (c.stands_last.ensures c.if-stands_last.true);
   is = c.take_last.ensures.items ∙ sym (last_taken c.args.spans.now.items);
 }

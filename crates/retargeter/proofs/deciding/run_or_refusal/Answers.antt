@@ -1,20 +1,17 @@
 use Rattle.std.proofs.Common.{◌≡◌, None, Some, option_map, ap, sym, ◌∙◌}
-use Rattle.soc_model.specs.Chips.{soc_value}
-use Rattle.plan_model.specs.Views.{limits_value, plan_value}
 use Rattle.commands.specs.Texts.{run_line}
 use Rattle.retargeter.specs.Requests.{long_refusal}
-use Rattle.retargeter.proofs.Endings.{refused_run, taken_run}
+use Rattle.commands.proofs.Endings.{may_be_long}
+use Rattle.retargeter.specs.DataTexts.{retarget_text}
+use Rattle.retargeter.proofs.Endings.{refused_run}
 use Rattle.retargeter.proofs.deciding.run_or_refusal.Goals as goal
 
-pub cells_over-requires : goal.cells_over-requires
-cells_over-requires c = c.good_without_limits.ensures.narrow (soc_value c.args.all.soc) (limits_value c.args.all.limits) (plan_value c.args.all.plan) c.requires.limits c.requires.accepted.0
+pub returns-in-Some : goal.returns-in-Some
+returns-in-Some c = λ held before after.
+    let long : long_refusal c.args.all.plan ≡ Some (run_line c.in-Some.cells) = ap (option_map run_line) (sym c.long_run.ensures ∙ c.in-Some.is) in
+    refused_run c.args.all.soc c.args.all.plan c.args.test_data (run_line c.in-Some.cells) c.run_line.result c.refused_with.result held before after long c.run_line.ensures.text c.run_line.ensures.line c.refused_with.ensures
 
-pub returns-in-Some-clause-continues : goal.returns-in-Some-clause-continues
-returns-in-Some-clause-continues c = λ held before after.
-    let long : long_refusal (plan_value c.args.all.plan) ≡ Some (run_line c.in-Some.cells) = ap (option_map run_line) (sym c.cells_over.ensures ∙ c.in-Some.is) in
-    refused_run (soc_value c.args.all.soc) (plan_value c.args.all.plan) c.args.test_data (run_line c.in-Some.cells) c.run_line.result c.refused_with.result held before after long c.run_line.ensures.text c.run_line.ensures.line c.refused_with.ensures
-
-pub returns-in-None-clause-continues : goal.returns-in-None-clause-continues
-returns-in-None-clause-continues c = λ held before after.
-    let short : long_refusal (plan_value c.args.all.plan) ≡ None = ap (option_map run_line) (sym c.cells_over.ensures ∙ c.in-None.is) in
-    taken_run c.args.all c.args.test_data held before after short
+pub returns-in-None : goal.returns-in-None
+returns-in-None c = λ held before after.
+    let short : long_refusal c.args.all.plan ≡ None = ap (option_map run_line) (sym c.long_run.ensures ∙ c.in-None.is) in
+    may_be_long (long_refusal c.args.all.plan) (retarget_text c.args.all.soc c.args.all.plan c.args.test_data) held short

@@ -2,8 +2,6 @@ use Rattle.std.proofs.Common.{inl, inr, refl}
 use Rattle.soc_model.specs.Chips.{soc_value}
 use Rattle.plan_model.specs.Views.{plan_value}
 use Rattle.retargeter.specs.Contents.{data_content, data_marks}
-use Rattle.retargeter.specs.DataTexts.{retarget_text}
-use Rattle.retargeter.proofs.Endings.{run_written}
 use Rattle.retargeter.proofs.SaidBits.{data_stands}
 use Rattle.retargeter.proofs.ending.write_run.Goals as goal
 
@@ -11,10 +9,10 @@ pub returns-in-Written-clause-written : goal.returns-in-Written-clause-written
 returns-in-Written-clause-written g c =
     let soc = soc_value c.args.soc.now in
     let es = c.args.test_data.now in
-    run_written (retarget_text soc (plan_value c.args.plan.now) es) _ _ _ _ _ (inl (refl, c.in-Written.ensures.written refl (data_content soc es) (data_marks soc es) (data_stands soc es c.requires.sound)))
+    inr (inl (refl, c.in-Written.ensures.written refl (data_content soc es) (data_marks soc es) (data_stands soc es c.requires.sound)))
 
 pub returns-in-WriteFault-clause-written : goal.returns-in-WriteFault-clause-written
 returns-in-WriteFault-clause-written g c =
     let soc = soc_value c.args.soc.now in
     let es = c.args.test_data.now in
-    run_written (retarget_text soc (plan_value c.args.plan.now) es) _ _ _ _ _ (inr (refl, c.in-WriteFault.ensures.fault refl, c.in-WriteFault.ensures.front refl (data_content soc es) (data_marks soc es) (data_stands soc es c.requires.sound)))
+    inr (inr (refl, c.in-WriteFault.ensures.fault refl, c.in-WriteFault.ensures.front refl (data_content soc es) (data_marks soc es) (data_stands soc es c.requires.sound)))

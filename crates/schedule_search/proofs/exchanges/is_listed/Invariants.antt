@@ -1,5 +1,4 @@
-use Rattle.std.proofs.Common.{take}
-use Rattle.std.specs.List.{Contains}
+use Rattle.std.proofs.Common.{take, Contains}
 use Rattle.schedule_search.proofs.exchanges.is_listed.Given as goal
 
 abbrev pub invariant-loop-first : goal.invariant-loop-first

@@ -1,6 +1,4 @@
-use Rattle.std.proofs.Common.{◌≡◌, ◌+◌, ℕ, Bool, true, false, List, get_or, refl, sym, subst}
-use Rattle.std.specs.Prelude.{not}
-use Rattle.std.specs.List.{Contains}
+use Rattle.std.proofs.Common.{◌≡◌, ◌+◌, ℕ, Bool, true, false, List, get_or, refl, sym, subst, not, Contains}
 use Rattle.resource_table.specs.Jobs.{job_value}
 use Rattle.schedule_search.proofs.Exchanging.{exchanged_topological, not_exchanged}
 use Rattle.schedule_search.proofs.exchanges.may_exchange.Goals as goal

@@ -1,5 +1,4 @@
-use Rattle.std.proofs.Common.{◌∙◌, sym, ap}
-use Rattle.std.specs.List.{insert}
+use Rattle.std.proofs.Common.{◌∙◌, sym, ap, insert}
 use Rattle.std.proofs.lemmas.List.Edits.{insert_end}
 use Rattle.schedule_search.proofs.lists.put_at.Goals as goal
 

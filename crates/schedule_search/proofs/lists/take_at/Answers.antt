@@ -1,5 +1,4 @@
-use Rattle.std.proofs.Common.{◌≡◌, ◌∙◌, ◌∷◌, ◌++◌, [], ℕ, List, length, length-append, get_or, sym, ap, arith}
-use Rattle.std.specs.List.{remove}
+use Rattle.std.proofs.Common.{◌≡◌, ◌∙◌, ◌∷◌, ◌++◌, [], ℕ, List, length, length-append, get_or, sym, ap, arith, remove}
 use Rattle.schedule_search.proofs.Outside.{last_item}
 use Rattle.schedule_search.proofs.lists.take_at.Goals as goal
 

@@ -1,10 +1,8 @@
-use Rattle.std.proofs.Common.{length, length-take, get_or, take, ap, arith, ◌∙◌, ◌++◌, ◌∷◌, [], ℕ, Bool, List, vec_capacity, ◌≡◌, ◌+◌, ◌<◌, true, false, cond, sym}
-use Rattle.std.specs.Prelude.{nat_eq}
+use Rattle.std.proofs.Common.{length, length-take, get_or, take, ap, arith, ◌∙◌, ◌++◌, ◌∷◌, [], ℕ, Bool, List, vec_capacity, ◌≡◌, ◌+◌, ◌<◌, true, false, cond, sym, nat_eq, filter}
 use Rattle.schedule_search.proofs.Outside.{filter_few}
 use Rattle.std.specs.Global.{Vec}
 use Rattle.std.proofs.lemmas.Bool.{eq-eqb, ne_eqb}
 use Rattle.schedule_search.proofs.prefix.fill_free.Goals.{then-missing-test-eq0, else-missing-test-eq0}
-use Rattle.std.specs.List.{filter}
 use Rattle.std.proofs.lemmas.List.Elements.{filter_more}
 use Rattle.std.proofs.lemmas.List.{append-nil}
 use Rattle.schedule_search.proofs.prefix.fill_free.Goals as goal

@@ -1,6 +1,4 @@
-use Rattle.std.proofs.Common.{◌≡◌, take, get_or, vec_capacity}
-use Rattle.std.specs.Prelude.{nat_eq}
-use Rattle.std.specs.List.{filter}
+use Rattle.std.proofs.Common.{◌≡◌, take, get_or, vec_capacity, nat_eq, filter}
 use Rattle.schedule_search.proofs.prefix.fill_free.Given as goal
 
 abbrev pub invariant-loop-test : goal.invariant-loop-test

@@ -1,6 +1,4 @@
-use Rattle.std.proofs.Common.{◌≡◌, ◌∙◌, ◌<◌, ℕ, Some, List, length, get_or, set, sym, ap, subst, arith}
-use Rattle.std.specs.Prelude.{not, slice_get}
-use Rattle.std.specs.List.{insert, remove}
+use Rattle.std.proofs.Common.{◌≡◌, ◌∙◌, ◌<◌, ℕ, Some, List, length, get_or, set, sym, ap, subst, arith, not, slice_get, insert, remove}
 use Rattle.std.specs.Vec.{with_items}
 use Rattle.std.proofs.lemmas.List.{length-set, with_items_is}
 use Rattle.std.proofs.lemmas.List.Edits.{length-remove}
@@ -11,8 +9,8 @@ use Rattle.schedule_search.specs.Prefixes.{outside, IsPlaceOf}
 use Rattle.schedule_search.proofs.Outside.{insert_removed, outside_at, passing_order}
 use Rattle.schedule_search.proofs.Sorting.{place_there}
 use Rattle.schedule_search.proofs.Stepping.{next_out}
-use Rattle.schedule_search.proofs.prefix.pass_left.Goals as goal
 use Rattle.common_lemmas.proofs.Lists.{any_default}
+use Rattle.schedule_search.proofs.prefix.pass_left.Goals as goal
 
 pub put_for-requires : goal.put_for-requires
 put_for-requires c =

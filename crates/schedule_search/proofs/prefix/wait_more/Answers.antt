@@ -1,5 +1,4 @@
-use Rattle.std.proofs.Common.{◌≡◌, ◌∙◌, ◌+◌, ℕ, List, get_or, set, ap, arith, refl}
-use Rattle.std.specs.Prelude.{slice_get}
+use Rattle.std.proofs.Common.{◌≡◌, ◌∙◌, ◌+◌, ℕ, List, get_or, set, ap, arith, refl, slice_get}
 use Rattle.resource_table.specs.Jobs.{job_value}
 use Rattle.resource_table.proofs.Befores.{set_at}
 use Rattle.schedule_search.specs.Prefixes.{waits_for_none}

@@ -1,5 +1,4 @@
-use Rattle.std.proofs.Common.{◌≡◌, ◌∙◌, ℕ, ◌+◌, ◌-◌, ◌*◌, ◌^◌, ◌<◌, ◌≤◌, ◌++◌, ◌∷◌, [], List, false, length, length-append, get_or, max, vec_capacity, refl, sym, ap, subst, arith, rules}
-use Rattle.std.specs.Prelude.{IfSome}
+use Rattle.std.proofs.Common.{◌≡◌, ◌∙◌, ℕ, ◌+◌, ◌-◌, ◌*◌, ◌^◌, ◌<◌, ◌≤◌, ◌++◌, ◌∷◌, [], List, false, length, length-append, get_or, max, vec_capacity, refl, sym, ap, subst, arith, rules, IfSome}
 use Rattle.std.proofs.lemmas.Option.{get_or_from_slice_get}
 use Rattle.resource_table.specs.Jobs.{JobValue, job_value, cycles_of, IsSoundJob}
 use Rattle.resource_table.specs.Schedules.{TableValue, at_start, is_placed, MayPlace, IsSoundTable}

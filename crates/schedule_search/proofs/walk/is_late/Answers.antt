@@ -1,5 +1,4 @@
-use Rattle.std.proofs.Common.{◌≡◌, ◌∙◌, ◌+◌, ◌-◌, ◌<◌, ◌≤◌, ℕ, Some, sym, ap, get_or, length, subst, arith}
-use Rattle.std.specs.Prelude.{slice_get, IfSome}
+use Rattle.std.proofs.Common.{◌≡◌, ◌∙◌, ◌+◌, ◌-◌, ◌<◌, ◌≤◌, ℕ, Some, sym, ap, get_or, length, subst, arith, slice_get, IfSome}
 use Rattle.std.proofs.lemmas.Option.{slice_get-get_or}
 use Rattle.resource_table.specs.Jobs.{JobValue, cycles_of}
 use Rattle.resource_table.specs.Schedules.{TableValue, last_end, ready_at, IsEarliest}

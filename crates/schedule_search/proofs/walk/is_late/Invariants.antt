@@ -1,5 +1,4 @@
-use Rattle.std.proofs.Common.{◌≡◌, ◌≤◌}
-use Rattle.std.specs.Prelude.{IfSome}
+use Rattle.std.proofs.Common.{◌≡◌, ◌≤◌, IfSome}
 use Rattle.resource_table.specs.Calm.{IsCalm}
 use Rattle.resource_table.specs.Schedules.{last_end}
 use Rattle.schedule_search.proofs.Lateness.{AreInTimeBelow}

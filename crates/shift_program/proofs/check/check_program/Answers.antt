@@ -1,6 +1,6 @@
 use Rattle.soc_model.specs.Chips.{module_value}
 use Rattle.plan_model.specs.Views.{wrapper_value}
-use Rattle.shift_program.proofs.Checked.{IsCounted, counted_by, checked_right, checked_exact, checked_least}
+use Rattle.shift_program.proofs.Exact.{counted_by, checked_right, checked_exact, checked_least, IsCounted}
 use Rattle.shift_program.proofs.check.check_program.Goals as goal
 
 abbrev counted : (c : goal.After-count_operations) → IsCounted (module_value c.args.«module».now) c.args.test.now (wrapper_value c.args.wrapper.now) c.args.program.now.entries.items c.count_operations.result

@@ -3,7 +3,7 @@ use Rattle.std.proofs.lemmas.List.{length-take-le}
 use Rattle.std.proofs.lemmas.Option.{slice_get-get_or}
 use Rattle.shift_program.specs.declared.Entry.TheVariants as entry
 use Rattle.shift_program.proofs.Counts.{captured-le}
-use Rattle.shift_program.proofs.Passing.{fault_at, clear_at, counted_at, seen_at, fault_end, none_end}
+use Rattle.shift_program.proofs.Exact.{fault_at, clear_at, counted_at, seen_at, fault_end, none_end}
 use Rattle.shift_program.proofs.counting.count_operations.Goals as goal
 
 pub returns-in-Some-clause-fault : goal.returns-in-Some-clause-fault

@@ -1,4 +1,4 @@
-use Rattle.shift_program.proofs.Chains.{faultless_are_right, right_are_faultless, right_are_long}
+use Rattle.shift_program.proofs.RightOnes.{faultless_are_right, right_are_faultless, right_are_long}
 use Rattle.shift_program.proofs.laws.faultless_programs_are_right.Goals as goal
 
 pub returns-clause-right : goal.returns-clause-right

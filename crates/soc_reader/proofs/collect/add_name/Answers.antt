@@ -1,5 +1,4 @@
-use Rattle.std.proofs.Common.{refl}
-use Rattle.std.specs.Prelude.{not}
+use Rattle.std.proofs.Common.{refl, not}
 use Rattle.soc_reader.specs.Table.{name, may_repeat}
 use Rattle.soc_reader.specs.Marks.{is_marked}
 use Rattle.soc_reader.specs.Views.{known_of}

@@ -1,5 +1,4 @@
-use Rattle.std.proofs.Common.{◌≡◌, ◌∙◌, ◌||◌, inl, inr, Bool, true, false, refl, sym, ap}
-use Rattle.std.specs.Prelude.{◌&&◌, nat_eq, not}
+use Rattle.std.proofs.Common.{◌≡◌, ◌∙◌, ◌||◌, inl, inr, Bool, true, false, refl, sym, ap, ◌&&◌, nat_eq, not}
 use Rattle.std.proofs.lemmas.Bool.{cases_Bool, eqb-true, false≢true}
 use Rattle.std.proofs.lemmas.Result.{on_ok_weaker}
 use Rattle.soc_reader.specs.declared.keys.Key.{Key}

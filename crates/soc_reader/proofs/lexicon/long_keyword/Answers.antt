@@ -1,5 +1,4 @@
-use Rattle.std.proofs.Common.{sym, ◌∙◌, codes}
-use Rattle.std.specs.Prelude.{nat_le}
+use Rattle.std.proofs.Common.{sym, ◌∙◌, codes, nat_le}
 use Rattle.soc_reader.specs.Keywords.{sized}
 use Rattle.soc_reader.proofs.WordFacts.{named-same}
 use Rattle.soc_reader.proofs.lexicon.long_keyword.Goals as goal

@@ -6,7 +6,8 @@ use Rattle.commands.specs.Decides.{Decides, Follows}
 use Rattle.commands.specs.Commands.{CommandValue, Sample}
 use Rattle.commands.specs.Loads.{LoadsGive}
 use Rattle.commands.proofs.LoadStages.{at_end, reads_nothing}
-use Rattle.soctest.specs.Endings.{LoadsEnding}
+use Rattle.commands.specs.Endings.{LoadsEnding}
+use Rattle.soctest.specs.Endings.{ending_value}
 use Rattle.soctest.proofs.deciding.decide.Goals as goal
 
 pub returns-in-Some-Sample-clause-closes : goal.returns-in-Some-Sample-clause-closes
@@ -25,7 +26,7 @@ returns-in-Some-Sample-clause-by_loads g c =
 pub returns-in-Some-Vectors-clause-by_loads : goal.returns-in-Some-Vectors-clause-by_loads
 returns-in-Some-Vectors-clause-by_loads g c =
     let is = rw c.in-Some-Vectors.field-0-is at c.in-Some-Vectors.ensures.value in
-    subst (λ command. LoadsEnding g.H.Shelf.is_load (asked procedure_of command) c.args.shelf.now c.decide_vectors.result c.decide_vectors.new.shelf) is c.decide_vectors.ensures.by_loads
+    subst (λ command. LoadsEnding g.H.Shelf.is_load (asked procedure_of command) c.args.shelf.now (ending_value c.decide_vectors.result) c.decide_vectors.new.shelf) is c.decide_vectors.ensures.by_loads
 
 same_command : (a b : CommandValue) → Some a ≡ Some b → a ≡ b
 same_command a b e = cc

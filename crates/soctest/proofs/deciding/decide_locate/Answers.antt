@@ -14,15 +14,12 @@ returns-in-Ok-clause-follows g c =
 pub returns-in-Err-clause-follows : goal.returns-in-Err-clause-follows
 returns-in-Err-clause-follows g c = not_all _ _ _ (after_plan c.args.log.now) _ _ _ _ c.in-Err.ensures.loads
 
-pub answer_own_file-verdict-requires : goal.answer_own_file-verdict-requires
-answer_own_file-verdict-requires g c = (c.in-Ok.ensures.sound, c.good_without_limits.ensures.alone (soc_value c.in-Ok.all.soc) (limits_value c.in-Ok.all.limits) (plan_value c.in-Ok.all.plan) c.in-Ok.ensures.accepted.0)
-
 pub returns-in-Ok-clause-held_stays : goal.returns-in-Ok-clause-held_stays
 returns-in-Ok-clause-held_stays g c = c.answer_own_file-verdict.ensures.held_stays ∙ c.load_all.ensures.held_stays
 
 pub returns-in-Ok-clause-by_loads : goal.returns-in-Ok-clause-by_loads
 returns-in-Ok-clause-by_loads g c =
-    after_three g.H.Shelf.is_load c.args.soc.now c.args.limits.now c.args.plan.now (after_plan c.args.log.now) (soc_value c.in-Ok.all.soc) (limits_value c.in-Ok.all.limits) (plan_value c.in-Ok.all.plan) c.args.shelf.now c.load_all.new.shelf c.answer_own_file-verdict.new.shelf c.answer_own_file-verdict.result c.in-Ok.ensures.by_loads c.answer_own_file-verdict.ensures.by_loads
+    after_three g.H.Shelf.is_load c.args.soc.now c.args.limits.now c.args.plan.now (after_plan c.args.log.now) c.in-Ok.all.soc c.in-Ok.all.limits c.in-Ok.all.plan c.args.shelf.now c.load_all.new.shelf c.answer_own_file-verdict.new.shelf c.answer_own_file-verdict.result c.in-Ok.ensures.by_loads c.answer_own_file-verdict.ensures.by_loads
 
 pub returns-in-Err-clause-by_loads : goal.returns-in-Err-clause-by_loads
 returns-in-Err-clause-by_loads g c = stops_all g.H.Shelf.is_load c.args.soc.now c.args.limits.now c.args.plan.now (after_plan c.args.log.now) c.args.shelf.now c.load_all.new.shelf c.in-Err.verdict c.in-Err.ensures.by_loads

@@ -21,7 +21,7 @@ returns-in-Ok-clause-held_stays g c = c.answer_own_file-verdict.ensures.held_sta
 
 pub returns-in-Ok-clause-by_loads : goal.returns-in-Ok-clause-by_loads
 returns-in-Ok-clause-by_loads g c =
-    after_three g.H.Shelf.is_load c.args.soc.now c.args.limits.now c.args.plan.now (λ chip bounds value. with_program chip value c.args.program.now (λ shifts. done_with (accepted_program chip value shifts))) (soc_value c.in-Ok.all.soc) (limits_value c.in-Ok.all.limits) (plan_value c.in-Ok.all.plan) c.args.shelf.now c.load_all.new.shelf c.answer_own_file-verdict.new.shelf c.answer_own_file-verdict.result c.in-Ok.ensures.by_loads c.answer_own_file-verdict.ensures.by_loads
+    after_three g.H.Shelf.is_load c.args.soc.now c.args.limits.now c.args.plan.now (λ chip bounds value. with_program chip value c.args.program.now (λ shifts. done_with (accepted_program chip value shifts))) c.in-Ok.all.soc c.in-Ok.all.limits c.in-Ok.all.plan c.args.shelf.now c.load_all.new.shelf c.answer_own_file-verdict.new.shelf c.answer_own_file-verdict.result c.in-Ok.ensures.by_loads c.answer_own_file-verdict.ensures.by_loads
 
 pub returns-in-Err-clause-by_loads : goal.returns-in-Err-clause-by_loads
 returns-in-Err-clause-by_loads g c = stops_all g.H.Shelf.is_load c.args.soc.now c.args.limits.now c.args.plan.now (λ chip bounds value. with_program chip value c.args.program.now (λ shifts. done_with (accepted_program chip value shifts))) c.args.shelf.now c.load_all.new.shelf c.in-Err.verdict c.in-Err.ensures.by_loads

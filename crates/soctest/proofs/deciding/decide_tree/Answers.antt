@@ -19,7 +19,7 @@ returns-in-Ok-clause-held_stays g c = c.answer_own_file-verdict.ensures.held_sta
 
 pub returns-in-Ok-clause-by_loads : goal.returns-in-Ok-clause-by_loads
 returns-in-Ok-clause-by_loads g c =
-    after_two g.H.Shelf.is_load c.args.soc.now c.args.limits.now (with_bound c.args.tree.now) (soc_value c.in-Ok.both.soc) (limits_value c.in-Ok.both.limits) c.args.shelf.now c.load_both.new.shelf c.answer_own_file-verdict.new.shelf c.answer_own_file-verdict.result c.in-Ok.ensures.by_loads c.answer_own_file-verdict.ensures.by_loads
+    after_two g.H.Shelf.is_load c.args.soc.now c.args.limits.now (with_bound c.args.tree.now) c.in-Ok.both.soc c.in-Ok.both.limits c.args.shelf.now c.load_both.new.shelf c.answer_own_file-verdict.new.shelf c.answer_own_file-verdict.result c.in-Ok.ensures.by_loads c.answer_own_file-verdict.ensures.by_loads
 
 pub returns-in-Err-clause-by_loads : goal.returns-in-Err-clause-by_loads
 returns-in-Err-clause-by_loads g c = stops_both g.H.Shelf.is_load c.args.soc.now c.args.limits.now (with_bound c.args.tree.now) c.args.shelf.now c.load_both.new.shelf c.in-Err.verdict c.in-Err.ensures.by_loads

@@ -13,20 +13,17 @@ use Rattle.soctest.proofs.deciding.decide_vectors.Goals as goal
 pub returns-in-Ok-clause-closes : goal.returns-in-Ok-clause-closes
 returns-in-Ok-clause-closes g c = (
   tt,
-  may_unless c.args.soc.now c.args.limits.now c.args.plan.now (λ chip bounds value. Unless (run_refusal (too_many value)) (done_with (vector_text chip value (made_content chip c.args.seed)))) _ c.in-Ok.all (run_refusal (too_many (plan_value c.in-Ok.all.plan)))
-      (vector_text (soc_value c.in-Ok.all.soc) (plan_value c.in-Ok.all.plan) (made_content (soc_value c.in-Ok.all.soc) c.args.seed)) c.in-Ok.ensures.loads refl,
+  may_unless c.args.soc.now c.args.limits.now c.args.plan.now (λ chip bounds value. Unless (run_refusal (too_many value)) (done_with (vector_text chip value (made_content chip c.args.seed)))) _ c.in-Ok.all (run_refusal (too_many c.in-Ok.all.plan))
+      (vector_text c.in-Ok.all.soc c.in-Ok.all.plan (made_content c.in-Ok.all.soc c.args.seed)) c.in-Ok.ensures.loads refl,
 )
-
-pub returns-in-Ok-clause-runnable : goal.returns-in-Ok-clause-runnable
-returns-in-Ok-clause-runnable g c = record { sound = c.in-Ok.ensures.sound; limits = c.in-Ok.ensures.limits; accepted = c.in-Ok.ensures.accepted }
 
 pub returns-in-Err-clause-closes : goal.returns-in-Err-clause-closes
 returns-in-Err-clause-closes g c = not_all _ _ _ (λ chip bounds value. Unless (run_refusal (too_many value)) (done_with (vector_text chip value (made_content chip c.args.seed)))) _ _ _ _ c.in-Err.ensures.loads
 
 pub returns-in-Ok-clause-by_loads : goal.returns-in-Ok-clause-by_loads
 returns-in-Ok-clause-by_loads g c =
-    unless_loaded g.H.Shelf.is_load c.args.soc.now c.args.limits.now c.args.plan.now (λ chip bounds value. Unless (run_refusal (too_many value)) (done_with (vector_text chip value (made_content chip c.args.seed)))) (soc_value c.in-Ok.all.soc) (limits_value c.in-Ok.all.limits) (plan_value c.in-Ok.all.plan) c.args.shelf.now c.load_all.new.shelf (run_refusal (too_many (plan_value c.in-Ok.all.plan)))
-    (vector_text (soc_value c.in-Ok.all.soc) (plan_value c.in-Ok.all.plan) (made_content (soc_value c.in-Ok.all.soc) c.args.seed)) c.in-Ok.ensures.by_loads refl
+    unless_loaded g.H.Shelf.is_load c.args.soc.now c.args.limits.now c.args.plan.now (λ chip bounds value. Unless (run_refusal (too_many value)) (done_with (vector_text chip value (made_content chip c.args.seed)))) c.in-Ok.all.soc c.in-Ok.all.limits c.in-Ok.all.plan c.args.shelf.now c.load_all.new.shelf (run_refusal (too_many c.in-Ok.all.plan))
+    (vector_text c.in-Ok.all.soc c.in-Ok.all.plan (made_content c.in-Ok.all.soc c.args.seed)) c.in-Ok.ensures.by_loads refl
 
 pub returns-in-Err-clause-by_loads : goal.returns-in-Err-clause-by_loads
 returns-in-Err-clause-by_loads g c = stops_all g.H.Shelf.is_load c.args.soc.now c.args.limits.now c.args.plan.now (λ chip bounds value. Unless (run_refusal (too_many value)) (done_with (vector_text chip value (made_content chip c.args.seed)))) c.args.shelf.now c.load_all.new.shelf c.in-Err.verdict c.in-Err.ensures.by_loads

@@ -1,5 +1,4 @@
-use Rattle.std.proofs.Common.{◌≡◌, ◌≤◌, length, take}
-use Rattle.std.specs.List.{filter}
+use Rattle.std.proofs.Common.{◌≡◌, ◌≤◌, length, take, filter}
 use Rattle.soc_model.specs.Chips.{module_value, is_live}
 use Rattle.soctest.proofs.samples.count_live.Given as goal
 

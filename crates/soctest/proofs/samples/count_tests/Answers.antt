@@ -1,5 +1,4 @@
-use Rattle.std.proofs.Common.{◌∙◌, ap, sym, length, zero-add, arith}
-use Rattle.std.specs.List.{sum_by}
+use Rattle.std.proofs.Common.{◌∙◌, ap, sym, length, zero-add, arith, sum_by}
 use Rattle.soc_model.specs.Chips.{soc_value}
 use Rattle.soc_model.proofs.Entries.{modules-at_start, length-at_start}
 use Rattle.soc_model.proofs.Limits.{modules-le}

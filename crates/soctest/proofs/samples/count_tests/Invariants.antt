@@ -1,5 +1,4 @@
-use Rattle.std.proofs.Common.{◌≡◌, ◌+◌, ◌*◌, ◌≤◌, ◌^◌, length, map}
-use Rattle.std.specs.List.{sum_by}
+use Rattle.std.proofs.Common.{◌≡◌, ◌+◌, ◌*◌, ◌≤◌, ◌^◌, length, map, sum_by}
 use Rattle.soc_model.specs.Chips.{soc_value, module_value, live_tests}
 use Rattle.soctest.proofs.LiveCounts.{live_in}
 use Rattle.soctest.proofs.samples.count_tests.Given as goal

@@ -1,5 +1,4 @@
-use Rattle.std.proofs.Common.{◌∙◌, List, ℕ, ◌++◌, ap, decimal, length}
-use Rattle.std.specs.Prelude.{codes}
+use Rattle.std.proofs.Common.{◌∙◌, List, ℕ, ◌++◌, ap, decimal, length, codes}
 use Rattle.soc_model.specs.Chips.{soc_value, live_tests}
 use Rattle.plan_model.specs.Views.{why_value}
 use Rattle.commands.specs.Texts.{two_numbers}

@@ -1,7 +1,5 @@
 use Rattle.std.proofs.Common.{List, ℕ, ◌≡◌}
-use Rattle.soc_model.specs.Chips.{soc_value}
 use Rattle.plan_model.specs.Plans.{PlanValue}
-use Rattle.plan_model.specs.Views.{limits_value}
 use Rattle.planner.specs.Plans.{IsPlanned}
 use Rattle.split_plan.specs.Parts.{split_chip, split_limits, split_of}
 use Rattle.commands.specs.Procedures.{Unless}
@@ -14,20 +12,20 @@ use Rattle.soctest.proofs.splitting.decide_split.Goals as goal
 
 pub returns-in-Ok-clause-follows : goal.returns-in-Ok-clause-follows
 returns-in-Ok-clause-follows g c =
-    let chip = soc_value c.in-Ok.both.soc in
-    let bounds = limits_value c.in-Ok.both.limits in
+    let chip = c.in-Ok.both.soc in
+    let bounds = c.in-Ok.both.limits in
     after_both _ _ (λ chip bounds. Unless (split_refusal chip bounds c.args.most) (done_with_split chip bounds c.args.most)) _ _ (g.H.Shelf.faults c.load_both.new.shelf) _ c.in-Ok.both _ c.load_both.ensures.faults_never_fall c.in-Ok.ensures.loads
-    (unless_any (split_refusal chip bounds c.args.most) (λ (text : List ℕ). (value : PlanValue) × IsPlanned (split_chip bounds c.args.most chip) (split_limits bounds c.args.most chip) value × (text ≡ split_text (split_of chip bounds c.args.most) value)) _ (g.H.Shelf.faults c.load_both.new.shelf) (g.H.Shelf.faults c.load_both.new.shelf) _ c.answer_split.ensures)
+    (unless_any (split_refusal chip bounds c.args.most) (λ (text : List ℕ). (value : PlanValue) × IsPlanned (split_chip bounds c.args.most chip) (split_limits bounds c.args.most chip) value × (text ≡ split_text (split_of chip bounds c.args.most) value)) _ (g.H.Shelf.faults c.load_both.new.shelf) (g.H.Shelf.faults c.load_both.new.shelf) _ c.answer_both-verdict.ensures)
 
 pub returns-in-Err-clause-follows : goal.returns-in-Err-clause-follows
 returns-in-Err-clause-follows g c = not_both _ _ (λ chip bounds. Unless (split_refusal chip bounds c.args.most) (done_with_split chip bounds c.args.most)) _ _ _ _ c.in-Err.ensures.loads
 
 pub returns-in-Ok-clause-by_loads : goal.returns-in-Ok-clause-by_loads
 returns-in-Ok-clause-by_loads g c =
-    let chip = soc_value c.in-Ok.both.soc in
-    let bounds = limits_value c.in-Ok.both.limits in
-    after_two g.H.Shelf.is_load c.args.soc.now c.args.limits.now (λ chip bounds. Unless (split_refusal chip bounds c.args.most) (done_with_split chip bounds c.args.most)) chip bounds c.args.shelf.now c.load_both.new.shelf c.load_both.new.shelf c.answer_split.result c.in-Ok.ensures.by_loads
-    (any_loaded g.H.Shelf.is_load (split_refusal chip bounds c.args.most) (λ (text : List ℕ). (value : PlanValue) × IsPlanned (split_chip bounds c.args.most chip) (split_limits bounds c.args.most chip) value × (text ≡ split_text (split_of chip bounds c.args.most) value)) c.answer_split.result c.load_both.new.shelf c.answer_split.ensures)
+    let chip = c.in-Ok.both.soc in
+    let bounds = c.in-Ok.both.limits in
+    after_two g.H.Shelf.is_load c.args.soc.now c.args.limits.now (λ chip bounds. Unless (split_refusal chip bounds c.args.most) (done_with_split chip bounds c.args.most)) chip bounds c.args.shelf.now c.load_both.new.shelf c.load_both.new.shelf c.answer_both-verdict.result c.in-Ok.ensures.by_loads
+    (any_loaded g.H.Shelf.is_load (split_refusal chip bounds c.args.most) (λ (text : List ℕ). (value : PlanValue) × IsPlanned (split_chip bounds c.args.most chip) (split_limits bounds c.args.most chip) value × (text ≡ split_text (split_of chip bounds c.args.most) value)) c.answer_both-verdict.result c.load_both.new.shelf c.answer_both-verdict.ensures)
 
 pub returns-in-Err-clause-by_loads : goal.returns-in-Err-clause-by_loads
 returns-in-Err-clause-by_loads g c =

@@ -1,5 +1,4 @@
-use Rattle.std.proofs.Common.{◌≡◌, ◌++◌, take}
-use Rattle.std.specs.List.{flat_map}
+use Rattle.std.proofs.Common.{◌≡◌, ◌++◌, take, flat_map}
 use Rattle.soc_model.specs.declared.TestId.{TestId}
 use Rattle.split_plan.specs.Cuts.{cut_named}
 use Rattle.split_plan.specs.Parts.{joined}

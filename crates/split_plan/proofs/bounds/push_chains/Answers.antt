@@ -1,10 +1,9 @@
-use Rattle.std.proofs.Common.{◌∙◌, ◌++◌, List, ap}
-use Rattle.std.specs.List.{flat_map}
+use Rattle.std.proofs.Common.{◌∙◌, ◌++◌, List, ap, flat_map}
 use Rattle.std.proofs.lemmas.List.{take_all}
 use Rattle.split_plan.specs.declared.cuts.Cut.{Cut}
 use Rattle.split_plan.specs.Parts.{chain}
-use Rattle.split_plan.proofs.bounds.push_chains.Goals as goal
 use Rattle.common_lemmas.proofs.Lists.{flat_more}
+use Rattle.split_plan.proofs.bounds.push_chains.Goals as goal
 
 pub loop-cut-preserved : goal.loop-cut-preserved
 loop-cut-preserved c =

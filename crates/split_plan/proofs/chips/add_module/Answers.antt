@@ -1,5 +1,4 @@
-use Rattle.std.proofs.Common.{◌++◌, List, sym, subst}
-use Rattle.std.specs.List.{All}
+use Rattle.std.proofs.Common.{◌++◌, List, sym, subst, All}
 use Rattle.std.proofs.lemmas.List.Elements.{All-append}
 use Rattle.std.proofs.lemmas.Result.{on_ok_weaker}
 use Rattle.split_plan.specs.declared.cuts.Cut.{Cut}

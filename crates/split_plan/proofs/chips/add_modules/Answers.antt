@@ -5,8 +5,7 @@ use Rattle.soc_model.specs.Chips.{soc_value, module_value}
 use Rattle.soc_model.proofs.Entries.{modules-at_start}
 use Rattle.soc_model.proofs.Sums.{IsBounded, all_bounded}
 use Rattle.plan_model.specs.Views.{limits_value}
-use Rattle.split_plan.proofs.Counting.{small_tests}
-use Rattle.split_plan.proofs.Making.{making_starts, next_is_new, making_goes_on}
+use Rattle.split_plan.proofs.Making.{small_tests, making_starts, next_is_new, making_goes_on}
 use Rattle.split_plan.proofs.chips.add_modules.Goals as goal
 
 pub loop-module-init : goal.loop-module-init

@@ -1,5 +1,4 @@
-use Rattle.std.proofs.Common.{◌∙◌, ◌<◌, ◌≤◌, false, ◌++◌, List, length, get_or, sym, ap, subst, arith}
-use Rattle.std.specs.List.{All}
+use Rattle.std.proofs.Common.{◌∙◌, ◌<◌, ◌≤◌, false, ◌++◌, List, length, get_or, sym, ap, subst, arith, All}
 use Rattle.std.proofs.lemmas.List.{append-nil, drop_all}
 use Rattle.std.proofs.lemmas.List.Elements.{All-push}
 use Rattle.soc_model.specs.declared.Test.{Test}

@@ -1,5 +1,4 @@
-use Rattle.std.proofs.Common.{◌≡◌, ◌+◌, ◌*◌, ◌≤◌, ◌^◌, ◌++◌, drop}
-use Rattle.std.specs.List.{All}
+use Rattle.std.proofs.Common.{◌≡◌, ◌+◌, ◌*◌, ◌≤◌, ◌^◌, ◌++◌, drop, All}
 use Rattle.soc_model.specs.Chips.{module_value}
 use Rattle.plan_model.specs.Views.{limits_value}
 use Rattle.split_plan.specs.Cuts.{cuts_from, cuts_in}

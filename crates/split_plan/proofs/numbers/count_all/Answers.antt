@@ -1,12 +1,11 @@
-use Rattle.std.proofs.Common.{◌∙◌, sym, ap, subst, zero-add, length, arith}
-use Rattle.std.specs.List.{sum_by, All}
+use Rattle.std.proofs.Common.{◌∙◌, sym, ap, subst, zero-add, length, arith, sum_by, All}
 use Rattle.soc_model.specs.Chips.{soc_value, module_value}
 use Rattle.soc_model.specs.declared.Which.TheVariants.{Tests, Chains}
 use Rattle.soc_model.proofs.Entries.{modules-at_start, length-at_start}
 use Rattle.soc_model.proofs.Limits.{modules-le}
 use Rattle.soc_model.proofs.Sums.{IsBounded, all_bounded, bounded-next}
 use Rattle.split_plan.specs.Steps.{count_in}
-use Rattle.split_plan.proofs.Counting.{next_module, small_tests}
+use Rattle.split_plan.proofs.Making.{next_module, small_tests}
 use Rattle.split_plan.proofs.numbers.count_all.Goals as goal
 
 pub loop-module-init : goal.loop-module-init

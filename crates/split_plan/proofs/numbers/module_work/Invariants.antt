@@ -1,5 +1,4 @@
-use Rattle.std.proofs.Common.{◌≡◌, ◌*◌, ◌≤◌, ◌^◌, take, filter}
-use Rattle.std.specs.List.{sum_by}
+use Rattle.std.proofs.Common.{◌≡◌, ◌*◌, ◌≤◌, ◌^◌, take, filter, sum_by}
 use Rattle.soc_model.specs.Chips.{module_value, is_live}
 use Rattle.split_plan.specs.Steps.{parts_work}
 use Rattle.split_plan.proofs.numbers.module_work.Given as goal

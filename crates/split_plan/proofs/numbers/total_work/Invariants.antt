@@ -1,5 +1,4 @@
-use Rattle.std.proofs.Common.{◌≡◌, ◌+◌, ◌*◌, ◌≤◌, ◌^◌, length, map}
-use Rattle.std.specs.List.{sum_by, All}
+use Rattle.std.proofs.Common.{◌≡◌, ◌+◌, ◌*◌, ◌≤◌, ◌^◌, length, map, sum_by, All}
 use Rattle.soc_model.specs.Chips.{soc_value, module_value}
 use Rattle.soc_model.proofs.Sums.{IsBounded}
 use Rattle.split_plan.specs.Steps.{module_work, total_work}

@@ -1,5 +1,4 @@
-use Rattle.std.proofs.Common.{◌≡◌, true, false, not, take, Some, is_some, sym, ◌∙◌, ap}
-use Rattle.std.specs.Prelude.{slice_index_or}
+use Rattle.std.proofs.Common.{◌≡◌, true, false, not, take, Some, is_some, sym, ◌∙◌, ap, slice_index_or}
 use Rattle.std.specs.List.{list_any}
 use Rattle.soc_model.specs.Chips.{same_test, soc_value}
 use Rattle.test_data.specs.declared.places.TestEntry.{TestEntry}

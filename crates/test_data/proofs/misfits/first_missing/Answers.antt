@@ -1,6 +1,4 @@
-use Rattle.std.proofs.Common.{not, List, sym, ◌∙◌, ap}
-use Rattle.std.specs.Prelude.{find}
-use Rattle.std.specs.List.{flat_map}
+use Rattle.std.proofs.Common.{not, List, sym, ◌∙◌, ap, find, flat_map}
 use Rattle.soc_model.specs.declared.TestId.{TestId}
 use Rattle.soc_model.specs.Chips.{ModuleValue}
 use Rattle.soc_model.proofs.Entries.{modules-at_start}

@@ -1,6 +1,4 @@
-use Rattle.std.proofs.Common.{◌≡◌, map, not}
-use Rattle.std.specs.Prelude.{find}
-use Rattle.std.specs.List.{flat_map}
+use Rattle.std.proofs.Common.{◌≡◌, map, not, find, flat_map}
 use Rattle.soc_model.specs.Chips.{module_value, soc_value}
 use Rattle.test_data.specs.DataPlaces.{kept_names}
 use Rattle.test_data.specs.Suiting.{first_missing, has_name, tam_names_in}

@@ -1,6 +1,4 @@
-use Rattle.std.proofs.Common.{◌≡◌, drop, map, not}
-use Rattle.std.specs.Prelude.{find}
-use Rattle.std.specs.List.{filter}
+use Rattle.std.proofs.Common.{◌≡◌, drop, map, not, find, filter}
 use Rattle.soc_model.specs.Chips.{module_value}
 use Rattle.soc_model.specs.Modes.{is_tam}
 use Rattle.test_data.specs.DataPlaces.{kept_names}

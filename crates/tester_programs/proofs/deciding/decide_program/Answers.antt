@@ -1,6 +1,4 @@
 use Rattle.std.proofs.Common.{◌∙◌}
-use Rattle.soc_model.specs.Chips.{soc_value}
-use Rattle.plan_model.specs.Views.{limits_value, plan_value}
 use Rattle.soc_reader.specs.ChipForm.{SaysChip}
 use Rattle.commands.specs.declared.FileKind.TheVariants.{Soc}
 use Rattle.commands.specs.Procedures.{with_accepted, with_limits}
@@ -8,11 +6,9 @@ use Rattle.commands.specs.Readings.{RefusesChip}
 use Rattle.commands.proofs.AllFiles.{not_all}
 use Rattle.commands.proofs.LoadStages.{stops_all}
 use Rattle.tester_programs.specs.Requests.{with_data_program}
-use Rattle.tester_programs.proofs.ProgramEndings.{after_taken, after_all_loads, closes_read}
+use Rattle.commands.proofs.Endings.{after_taken, after_all_loads, closes_read}
+use Rattle.tester_programs.specs.ProgramEndings.{ending_value}
 use Rattle.tester_programs.proofs.deciding.decide_program.Goals as goal
-
-pub decide_data-requires : goal.decide_data-requires
-decide_data-requires g c = record { sound = c.in-Ok.ensures.sound; limits = c.in-Ok.ensures.limits; accepted = c.in-Ok.ensures.accepted }
 
 pub returns-in-Ok-clause-held_stays : goal.returns-in-Ok-clause-held_stays
 returns-in-Ok-clause-held_stays g c = c.decide_data.ensures.held_stays ∙ c.load_all.ensures.held_stays
@@ -20,15 +16,15 @@ returns-in-Ok-clause-held_stays g c = c.decide_data.ensures.held_stays ∙ c.loa
 pub returns-in-Ok-clause-closes : goal.returns-in-Ok-clause-closes
 returns-in-Ok-clause-closes g c =
     let continues = rw c.load_all.ensures.held_stays at c.decide_data.ensures.continues in
-    closes_read Soc SaysChip RefusesChip c.args.soc.now (λ chip. with_limits chip c.args.limits.now (λ bounds. with_accepted chip bounds c.args.plan.now (with_data_program c.args.language c.args.name.now chip bounds))) (g.H.Shelf.held c.args.shelf.now) (g.H.Shelf.faults c.args.shelf.now) (g.H.Shelf.faults c.decide_data.new.shelf) c.decide_data.result
-    (after_taken c.args.soc.now c.args.limits.now c.args.plan.now (with_data_program c.args.language c.args.name.now) (g.H.Shelf.held c.args.shelf.now) (g.H.Shelf.faults c.args.shelf.now) (g.H.Shelf.faults c.load_all.new.shelf) (g.H.Shelf.faults c.decide_data.new.shelf) c.in-Ok.all c.decide_data.result c.load_all.ensures.faults_never_fall c.in-Ok.ensures.loads continues)
+    closes_read Soc SaysChip RefusesChip c.args.soc.now (λ chip. with_limits chip c.args.limits.now (λ bounds. with_accepted chip bounds c.args.plan.now (with_data_program c.args.language c.args.name.now chip bounds))) (g.H.Shelf.held c.args.shelf.now) (g.H.Shelf.faults c.args.shelf.now) (g.H.Shelf.faults c.decide_data.new.shelf) (ending_value c.decide_data.result)
+    (after_taken c.args.soc.now c.args.limits.now c.args.plan.now (with_data_program c.args.language c.args.name.now) (g.H.Shelf.held c.args.shelf.now) (g.H.Shelf.faults c.args.shelf.now) (g.H.Shelf.faults c.load_all.new.shelf) (g.H.Shelf.faults c.decide_data.new.shelf) c.in-Ok.all (ending_value c.decide_data.result) c.load_all.ensures.faults_never_fall c.in-Ok.ensures.loads continues)
 
 pub returns-in-Err-clause-closes : goal.returns-in-Err-clause-closes
 returns-in-Err-clause-closes g c = not_all c.args.soc.now c.args.limits.now c.args.plan.now (with_data_program c.args.language c.args.name.now) (g.H.Shelf.held c.args.shelf.now) (g.H.Shelf.faults c.args.shelf.now) (g.H.Shelf.faults c.load_all.new.shelf) c.in-Err.verdict c.in-Err.ensures.loads
 
 pub returns-in-Ok-clause-by_loads : goal.returns-in-Ok-clause-by_loads
 returns-in-Ok-clause-by_loads g c =
-    after_all_loads g.H.Shelf.is_load c.args.soc.now c.args.limits.now c.args.plan.now (with_data_program c.args.language c.args.name.now) (soc_value c.in-Ok.all.soc) (limits_value c.in-Ok.all.limits) (plan_value c.in-Ok.all.plan) c.args.shelf.now c.load_all.new.shelf c.decide_data.new.shelf c.decide_data.result c.in-Ok.ensures.by_loads c.decide_data.ensures.by_loads
+    after_all_loads g.H.Shelf.is_load c.args.soc.now c.args.limits.now c.args.plan.now (with_data_program c.args.language c.args.name.now) c.in-Ok.all.soc c.in-Ok.all.limits c.in-Ok.all.plan c.args.shelf.now c.load_all.new.shelf c.decide_data.new.shelf (ending_value c.decide_data.result) c.in-Ok.ensures.by_loads c.decide_data.ensures.by_loads
 
 pub returns-in-Err-clause-by_loads : goal.returns-in-Err-clause-by_loads
 returns-in-Err-clause-by_loads g c = stops_all g.H.Shelf.is_load c.args.soc.now c.args.limits.now c.args.plan.now (with_data_program c.args.language c.args.name.now) c.args.shelf.now c.load_all.new.shelf c.in-Err.verdict c.in-Err.ensures.by_loads

@@ -1,10 +1,9 @@
-use Rattle.std.proofs.Common.{ℕ, List, ◌++◌, ◌∙◌, ap, sym, codes}
-use Rattle.std.specs.Prelude.{replicate}
+use Rattle.std.proofs.Common.{ℕ, List, ◌++◌, ◌∙◌, ap, sym, codes, replicate}
 use Rattle.std.proofs.lemmas.Result.{on_ok_weaker}
 use Rattle.form_pieces.proofs.Texts.{where_some-some}
 use Rattle.verilog_text.specs.VerilogText.{comparison, failure, number}
-use Rattle.verilog_text.proofs.task.push_comparison.Goals as goal
 use Rattle.common_lemmas.proofs.Lists.{joined_before}
+use Rattle.verilog_text.proofs.task.push_comparison.Goals as goal
 
 pub returns : goal.returns
 returns c =

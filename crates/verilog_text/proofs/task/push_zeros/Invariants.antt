@@ -1,5 +1,4 @@
-use Rattle.std.proofs.Common.{◌≡◌, ◌++◌}
-use Rattle.std.specs.Prelude.{replicate}
+use Rattle.std.proofs.Common.{◌≡◌, ◌++◌, replicate}
 use Rattle.verilog_text.proofs.task.push_zeros.Given as goal
 
 abbrev pub invariant-loop-wire : goal.invariant-loop-wire

@@ -1,5 +1,4 @@
-use Rattle.std.proofs.Common.{◌+◌, ◌-◌, ◌*◌, ◌∙◌, ap, arith}
-use Rattle.std.specs.Prelude.{slice_index}
+use Rattle.std.proofs.Common.{◌+◌, ◌-◌, ◌*◌, ◌∙◌, ap, arith, slice_index}
 use Rattle.width_tree.specs.Tables.{place_of_time}
 use Rattle.width_tree.specs.Cases.{least_over}
 use Rattle.width_tree.proofs.CaseFacts.{least_over-begins, least_over-goes}
@@ -12,9 +11,9 @@ pub loop-width-preserved : goal.loop-width-preserved
 loop-width-preserved c =
     c.min-least.ensures
     ∙ least_over-goes (λ v. v * slice_index c.args.times.now (place_of_time c.args.place v)) c.args.interval.low (c.loop-width.width - 1 - c.args.interval.low) (c.loop-width.width + 1 - 1 - c.args.interval.low) c.loop-width.width c.loop-width.least c.area_on.result
-    (omega (arith, c.loop-width.auto.width)) (omega (arith, c.loop-width.auto.width)) c.loop-width.invariant c.area_on.ensures
+    (omega arith) (omega arith) c.loop-width.invariant c.area_on.ensures
 
 pub returns : goal.returns
 returns c =
     c.loop-width.invariant
-    ∙ ap (least_over (λ v. v * slice_index c.args.times.now (place_of_time c.args.place v)) c.args.interval.low) (omega (arith, c.loop-width.auto.width-end, c.loop-width-test.false, c.requires.order))
+    ∙ ap (least_over (λ v. v * slice_index c.args.times.now (place_of_time c.args.place v)) c.args.interval.low) (omega arith)

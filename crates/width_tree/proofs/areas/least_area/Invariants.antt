@@ -1,5 +1,4 @@
-use Rattle.std.proofs.Common.{◌≡◌, ◌-◌, ◌*◌}
-use Rattle.std.specs.Prelude.{slice_index}
+use Rattle.std.proofs.Common.{◌≡◌, ◌-◌, ◌*◌, slice_index}
 use Rattle.width_tree.specs.Tables.{place_of_time}
 use Rattle.width_tree.specs.Cases.{least_over}
 use Rattle.width_tree.proofs.areas.least_area.Given as goal

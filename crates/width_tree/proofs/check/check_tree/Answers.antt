@@ -28,7 +28,7 @@ same_room m n o p modules nodes =
 
 pub check_in-requires-clause-turns : goal.check_in-requires-clause-turns
 check_in-requires-clause-turns c =
-    omega (arith, ap length c.deref_mut-4.ensures.value, ap (λ (r : RoomValue). r.nodes) c.room.view_is, c.requires.room.nodes, length-map c.args.tree.now.nodes.items node_value)
+    omega (arith, ap length c.deref_mut-4.ensures.value, ap (λ (r : RoomValue). r.nodes) c.room.view_is, length-map c.args.tree.now.nodes.items node_value)
 
 pub invariant_of-room : goal.invariant_of-room
 invariant_of-room c =

@@ -1,5 +1,4 @@
-use Rattle.std.proofs.Common.{◌≡◌, ◌<◌, ℕ}
-use Rattle.std.specs.Prelude.{slice_index}
+use Rattle.std.proofs.Common.{◌≡◌, ◌<◌, ℕ, slice_index}
 use Rattle.width_tree.specs.Cases.{interval_at}
 use Rattle.width_tree.specs.Findings.{area_by}
 use Rattle.width_tree.proofs.check.fill_areas.Given as goal

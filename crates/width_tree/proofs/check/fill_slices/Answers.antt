@@ -16,7 +16,7 @@ sum_of-requires c =
     subst (AreIntervals c.args.table.now.wires (length (chip_of c.args.table.now).modules)) (sym (c.fill_root.ensures ∙ root_is (chip_of c.args.table.now) c.args.table.now.wires (length c.args.intervals.now) c.requires.intervals))
     (root_intervals (chip_of c.args.table.now) c.args.table.now.wires c.requires.table.some_wire) in
     let few = areas_few c.args.table.now c.fill_root.new.widths c.fill_areas.new.areas c.requires.table ints c.fill_areas.ensures.long c.fill_areas.ensures.each in
-    omega (arith, few)
+    omega arith
 
 pub returns-clause-root : goal.returns-clause-root
 returns-clause-root c = c.fill_root.ensures ∙ root_is (chip_of c.args.table.now) c.args.table.now.wires (length c.args.intervals.now) c.requires.intervals

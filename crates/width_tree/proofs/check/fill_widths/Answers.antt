@@ -1,5 +1,4 @@
-use Rattle.std.proofs.Common.{◌≡◌, ◌∙◌, ℕ, List, length, sum, sym, ap, subst}
-use Rattle.std.specs.Prelude.{slice_index}
+use Rattle.std.proofs.Common.{◌≡◌, ◌∙◌, ℕ, List, length, sum, sym, ap, subst, slice_index}
 use Rattle.std.specs.Vec.{with_items}
 use Rattle.std.proofs.lemmas.List.{with_items_is}
 use Rattle.width_tree.specs.declared.intervals.Interval.{Interval}
@@ -14,8 +13,8 @@ use Rattle.width_tree.proofs.check.fill_widths.Goals as goal
 written : (w n : ℕ) (times : List ℕ) (old : Widths) (intervals : List Interval) (areas : List ℕ) (total : ℕ) → length old.intervals.items ≡ n → length old.areas.items ≡ n → AreIntervals w n intervals → AreAreas n times intervals areas → total ≡ sum areas →
     AreWidths w n times (record { intervals = with_items old.intervals intervals; areas = with_items old.areas areas; total = total })
 written w n times old intervals areas total long_intervals long_areas are each total_is =
-    let new_intervals : (with_items old.intervals intervals).items ≡ intervals = with_items_is old.intervals intervals (are.long ∙ sym long_intervals ∙ sym old.intervals.ok.0) in
-    let new_areas : (with_items old.areas areas).items ≡ areas = with_items_is old.areas areas (each.long ∙ sym long_areas ∙ sym old.areas.ok.0) in
+    let new_intervals = with_items_is old.intervals intervals (are.long ∙ sym long_intervals ∙ sym old.intervals.ok.0) in
+    let new_areas = with_items_is old.areas areas (each.long ∙ sym long_areas ∙ sym old.areas.ok.0) in
     record {
       intervals = subst (AreIntervals w n) (sym new_intervals) are;
       long = ap length new_areas ∙ each.long;

@@ -1,4 +1,4 @@
-use Rattle.width_tree.proofs.OneTree.{one_tree}
+use Rattle.width_tree.proofs.Faults.{one_tree}
 use Rattle.width_tree.proofs.laws.nodes_tell_the_tree.Goals as goal
 
 pub returns : goal.returns

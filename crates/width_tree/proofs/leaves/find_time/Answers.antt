@@ -1,14 +1,11 @@
-use Rattle.std.proofs.Common.{◌≡◌, ℕ, ◌<◌, Some, ◌∙◌, ap, sym, subst}
-use Rattle.std.specs.Prelude.{is_some}
-use Rattle.soc_model.specs.Lookups.{module_place}
+use Rattle.std.proofs.Common.{ℕ, ◌<◌, Some, ◌∙◌, ap, sym, subst, is_some}
 use Rattle.width_tree.specs.Tables.{chip_of}
-use Rattle.width_tree.proofs.TableFacts.{place_within}
-use Rattle.width_tree.proofs.WidthFacts.{time_shown}
+use Rattle.width_tree.proofs.WidthFacts.{place_within, time_shown}
 use Rattle.width_tree.proofs.leaves.find_time.Goals as goal
 
 pub returns-in-Some : goal.returns-in-Some
 returns-in-Some c =
-    let here : module_place (chip_of c.args.table.now) c.args.«module» ≡ Some c.in-Some.place = sym c.in-Some.ensures in
+    let here = sym c.in-Some.ensures in
     (ap is_some here, ap Some (time_shown c.args.table.now c.args.intervals.now c.args.«module» c.in-Some.place c.from.result c.from-in-Some.result c.requires.table c.requires.intervals here (c.from.ensures ∙ c.tam_time-time.ensures) c.from-in-Some.ensures))
 
 pub bounds-table-place : goal.bounds-table-place

@@ -1,5 +1,4 @@
-use Rattle.std.proofs.Common.{◌≡◌, Some, get_or, refl, arith}
-use Rattle.std.specs.Prelude.{slice_get}
+use Rattle.std.proofs.Common.{◌≡◌, Some, get_or, refl, arith, slice_get}
 use Rattle.std.proofs.lemmas.Option.{slice_get-get_or, slice_get_within}
 use Rattle.width_tree.specs.Tables.{chip_of}
 use Rattle.width_tree.proofs.BusLists.{none_taken, kept_more, all_high}
@@ -17,7 +16,7 @@ loop-place-init c = record {
 
 pub returns-in-None-clause-exact : goal.returns-in-None-clause-exact
 returns-in-None-clause-exact c = λ keeps.
-    let at : slice_get c.args.modules.now c.loop-place.place ≡ Some (get_or c.args.modules.now c.loop-place.place 0) = slice_get-get_or c.args.modules.now c.loop-place.place 0 (omega (arith, c.loop-place-test.true)) in
+    let at = slice_get-get_or c.args.modules.now c.loop-place.place 0 (omega arith) in
     c.in-None.ensures.breach (get_or c.args.modules.now c.loop-place.place 0) at (keeps c.loop-place.place (get_or c.args.modules.now c.loop-place.place 0) at)
 
 pub loop-place-preserved : goal.loop-place-preserved
@@ -35,6 +34,6 @@ loop-place-preserved c =
 
 pub returns-clause-exact : goal.returns-clause-exact
 returns-clause-exact c = (
-  λ n m at. c.loop-place.invariant.kept n m (omega (arith, slice_get_within c.args.modules.now n m at, c.loop-place-test.false)) at,
-  all_high (chip_of c.args.table.now) c.args.table.now.wires c.args.intervals.now c.args.modules.now c.loop-place.place c.loop-place.marks c.args.stamp c.loop-place.least c.loop-place.invariant.so_far (omega (arith, c.loop-place-test.false)),
+  λ n m at. c.loop-place.invariant.kept n m (omega (arith, slice_get_within c.args.modules.now n m at)) at,
+  all_high (chip_of c.args.table.now) c.args.table.now.wires c.args.intervals.now c.args.modules.now c.loop-place.place c.loop-place.marks c.args.stamp c.loop-place.least c.loop-place.invariant.so_far (omega arith),
 )

@@ -1,5 +1,4 @@
-use Rattle.std.proofs.Common.{ℕ, ◌≡◌, ◌+◌, ◌<◌, ◌≤◌, Some, take}
-use Rattle.std.specs.Prelude.{slice_get}
+use Rattle.std.proofs.Common.{ℕ, ◌≡◌, ◌+◌, ◌<◌, ◌≤◌, Some, take, slice_get}
 use Rattle.width_tree.specs.Cases.{IsBusItem}
 use Rattle.width_tree.specs.Tables.{chip_of}
 use Rattle.width_tree.specs.Findings.{IsBusSoFar, AreOlder}

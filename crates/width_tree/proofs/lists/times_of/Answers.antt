@@ -8,6 +8,6 @@ pub loop-number-preserved : goal.loop-number-preserved
 loop-number-preserved c =
     let more = sum_by_more (tam_time_of (chip_of c.args.table.now) c.args.width) c.args.modules.now c.loop-number.number-index 0 c.loop-number-test.true in
     record {
-      sum_is = omega (arith, more, c.from-sum.ensures, c.time_of.ensures.time, c.loop-number.invariant.sum_is);
-      few = omega (arith, c.from-sum.ensures, c.time_of.ensures.small, c.loop-number.invariant.few);
+      sum_is = omega (arith, more);
+      few = omega arith;
     }

@@ -1,5 +1,4 @@
-use Rattle.std.proofs.Common.{◌≡◌, ◌≤◌, ◌*◌, ◌^◌, take}
-use Rattle.std.specs.List.{sum_by}
+use Rattle.std.proofs.Common.{◌≡◌, ◌≤◌, ◌*◌, ◌^◌, take, sum_by}
 use Rattle.width_tree.specs.Cases.{tam_time_of}
 use Rattle.width_tree.specs.Tables.{chip_of}
 use Rattle.width_tree.proofs.lists.times_of.Given as goal

@@ -1,8 +1,8 @@
-use Rattle.std.proofs.Common.{◌≡◌, ℕ, length, arith}
+use Rattle.std.proofs.Common.{ℕ, arith}
 use Rattle.std.proofs.lemmas.List.{length-map}
 use Rattle.soc_model.specs.declared.Module.{Module}
 use Rattle.soc_model.specs.Chips.{soc_value, module_value}
-use Rattle.width_tree.proofs.TableFacts.{own_begins, own_more}
+use Rattle.width_tree.proofs.WidthFacts.{own_begins, own_more}
 use Rattle.width_tree.proofs.tables.fill_own_times.Goals as goal
 
 pub loop-place-init : goal.loop-place-init
@@ -10,14 +10,14 @@ loop-place-init c = own_begins (soc_value c.args.soc.now) c.args.own.now
 
 pub loop-place-preserved : goal.loop-place-preserved
 loop-place-preserved c =
-    let long : length (soc_value c.args.soc.now).modules ≡ length c.args.soc.now.modules.entries = length-map c.args.soc.now.modules.entries (λ (e : ℕ × Module). module_value e.1) in
+    let long = length-map c.args.soc.now.modules.entries (λ (e : ℕ × Module). module_value e.1) in
     own_more (soc_value c.args.soc.now) c.loop-place.place c.loop-place.own c.own_time.result c.loop-place.invariant
-    (omega (arith, long, c.len-place-end.ensures.len, c.loop-place-test.true, c.loop-place.auto.own, c.requires.room)) c.own_time.ensures.time c.own_time.ensures.small
+    (omega (arith, long)) c.own_time.ensures.time c.own_time.ensures.small
 
 pub returns : goal.returns
 returns c =
-    let long : length (soc_value c.args.soc.now).modules ≡ length c.args.soc.now.modules.entries = length-map c.args.soc.now.modules.entries (λ (e : ℕ × Module). module_value e.1) in
+    let long = length-map c.args.soc.now.modules.entries (λ (e : ℕ × Module). module_value e.1) in
     record {
-      time = λ p less. c.loop-place.invariant.time p (omega (arith, long, less, c.len-place-end.ensures.len, c.loop-place-test.false));
-      small = λ p less. c.loop-place.invariant.small p (omega (arith, long, less, c.len-place-end.ensures.len, c.loop-place-test.false));
+      time = λ p less. c.loop-place.invariant.time p (omega (arith, long, less));
+      small = λ p less. c.loop-place.invariant.small p (omega (arith, long, less));
     }

@@ -1,5 +1,5 @@
 use Rattle.soc_model.specs.Chips.{soc_value}
-use Rattle.width_tree.proofs.TableFacts.{RowSoFar}
+use Rattle.width_tree.proofs.WidthFacts.{RowSoFar}
 use Rattle.width_tree.proofs.tables.fill_row.Given as goal
 
 abbrev pub invariant-loop-width : goal.invariant-loop-width

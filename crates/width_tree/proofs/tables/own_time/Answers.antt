@@ -1,6 +1,6 @@
 use Rattle.std.proofs.Common.{arith}
 use Rattle.soc_model.specs.Chips.{soc_value}
-use Rattle.width_tree.proofs.TableFacts.{bound_splits}
+use Rattle.width_tree.proofs.WidthFacts.{bound_splits}
 use Rattle.width_tree.proofs.tables.own_time.Goals as goal
 
 pub overflow_sub-result : goal.overflow_sub-result

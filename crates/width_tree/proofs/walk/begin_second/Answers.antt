@@ -7,5 +7,5 @@ use Rattle.width_tree.proofs.walk.begin_second.Goals as goal
 pub put_interval-requires-clause-fits : goal.put_interval-requires-clause-fits
 put_interval-requires-clause-fits c =
     put_fits c.args.table.now c.args.widths.now (interval ((turn_at c.args.turns.now c.args.last).at + 1) (turn_at c.args.turns.now c.args.last).old.high) (turn_at c.args.turns.now c.args.last).place c.least_area.result c.requires.table c.requires.widths
-    (omega (arith, c.requires.turn.within, c.requires.widths.intervals.long))
+    (omega arith)
     (wide_interval c.args.table.now.wires (turn_at c.args.turns.now c.args.last).old (turn_at c.args.turns.now c.args.last).at c.requires.turn.old c.requires.turn.below) c.least_area.ensures

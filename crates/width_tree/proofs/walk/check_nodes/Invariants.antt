@@ -1,5 +1,4 @@
-use Rattle.std.proofs.Common.{◌≡◌, ◌+◌, ◌<◌, ◌≤◌, ℕ, Some, length, map, drop}
-use Rattle.std.specs.Prelude.{slice_get}
+use Rattle.std.proofs.Common.{◌≡◌, ◌+◌, ◌<◌, ◌≤◌, ℕ, Some, length, map, drop, slice_get}
 use Rattle.width_tree.specs.Trees.{WidthTree, nodes_of, node_value}
 use Rattle.width_tree.specs.Cases.{NodeCase, cases_of}
 use Rattle.width_tree.specs.Bounds.{IsEnough}

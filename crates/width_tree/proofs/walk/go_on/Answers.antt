@@ -1,7 +1,7 @@
 use Rattle.std.proofs.Common.{sym, ap, arith}
 use Rattle.width_tree.specs.Trees.{node_value}
 use Rattle.width_tree.specs.Tables.{chip_of}
-use Rattle.width_tree.proofs.TableFacts.{place_within}
+use Rattle.width_tree.proofs.WidthFacts.{place_within}
 use Rattle.width_tree.proofs.Turns.{split_goes, awaits_behind}
 use Rattle.width_tree.proofs.walk.go_on.Goals as goal
 
@@ -13,7 +13,7 @@ returns-in-Some-clause-goes_on c = λ left b.
 pub returns : goal.returns
 returns c = record {
   widths = c.next_branch.ensures.widths;
-  few = omega (arith, c.next_branch.ensures.few);
+  few = omega arith;
   goes_on = λ left b. c.next_branch.ensures.goes_on left (awaits_behind (chip_of c.args.table.now) c.args.table.now.wires c.args.table.now.times.now c.args.turns.now c.args.depth c.args.widths.now.intervals.items c.args.node.now left c.in_default.not-Split b);
 }
 

@@ -1,5 +1,4 @@
-use Rattle.std.proofs.Common.{◌<◌, length}
-use Rattle.std.specs.Prelude.{IfSome}
+use Rattle.std.proofs.Common.{◌<◌, length, IfSome}
 use Rattle.arch_search.proofs.buses.Buses.fullest.Given as goal
 
 abbrev pub invariant-loop-slot : goal.invariant-loop-slot

@@ -18,5 +18,5 @@ pub returns : goal.returns
 returns c =
     let long : length c.args.self.now ≡ c.self.inside.count = ap length (sym c.self.view_is) ∙ packed_long c.self.inside.words.items c.self.inside.count in
     let less : c.args.place < c.self.inside.count = omega (arith, long, c.requires) in
-    packed_put c.self.inside.words.items c.self.inside.count c.args.place c.with_bit.result c.args.bit c.self.invariant less c.with_bit.ensures.here
-    (λ j l other. c.with_bit.ensures.others j l other ∙ ap (λ w. is_set w j) (c.index-word.ensures ∙ any_default c.self.inside.words.items (c.args.place / 64) c.index-word.result.now 0 (omega (arith, less, c.self.invariant)))) ∙ ap (λ bits. set bits c.args.place c.args.bit) c.self.view_is
+    packed_put c.self.inside.words.items c.self.inside.count c.args.place c.with_bit.result c.self.invariant less c.with_bit.ensures.here (λ j l other. c.with_bit.ensures.others j l other
+    ∙ ap (λ w. is_set w j) (c.index-word.ensures ∙ any_default c.self.inside.words.items (c.args.place / 64) c.index-word.result.now 0 (omega (arith, less, c.self.invariant)))) ∙ ap (λ bits. set bits c.args.place c.args.bit) c.self.view_is

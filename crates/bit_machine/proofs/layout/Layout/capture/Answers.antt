@@ -1,5 +1,4 @@
-use Rattle.std.proofs.Common.{◌≡◌, ◌<◌, ◌+◌, ◌∙◌, [], sym, ap, arith, length, get_or, take}
-use Rattle.std.specs.List.{sum_by}
+use Rattle.std.proofs.Common.{◌≡◌, ◌<◌, ◌+◌, ◌∙◌, [], sym, ap, arith, length, get_or, take, sum_by}
 use Rattle.std.proofs.lemmas.List.Sums.{sum_by_more, sum_by_more_le}
 use Rattle.plan_model.specs.declared.ChainPlan.{ChainPlan}
 use Rattle.plan_model.specs.Runs.{captured}
@@ -30,8 +29,8 @@ capture_chain-requires-clause-answered c =
 pub capture_chain-requires-clause-long : goal.capture_chain-requires-clause-long
 capture_chain-requires-clause-long c =
     let many : length c.args.bits.now ≡ length c.args.self.now.chains.items = length-bits c.args.self.now c.args.bits.now c.requires.long in
-    ap length (item_before (captured (response_bit c.args.self.now.lengths.items c.args.response.now)) (layout_cells c.args.self.now) c.args.bits.now c.loop-place.bits c.loop-place.place c.index-bits-place.result c.loop-place-test.true c.loop-place.invariant.1)
-    ∙ length-bits_at c.args.self.now c.args.bits.now c.requires.long c.loop-place.place c.index-chain.result.now (omega (arith, c.loop-place-test.true)) (sym c.index-chain.ensures)
+    ap length (item_before (captured (response_bit c.args.self.now.lengths.items c.args.response.now)) (layout_cells c.args.self.now) c.args.bits.now c.loop-place.place c.index-bits-place.result c.loop-place.invariant.1 c.loop-place-test.true)
+    ∙ length-bits_at c.args.self.now c.args.bits.now c.requires.long c.loop-place.place (omega (arith, c.loop-place-test.true)) (sym c.index-chain.ensures)
 
 pub overflow_add-outs_from : goal.overflow_add-outs_from
 overflow_add-outs_from c =
@@ -45,10 +44,11 @@ loop-place-preserved c =
     let within : c.loop-place.place < length c.args.self.now.chains.items = omega (arith, c.loop-place-test.true) in
     let at : get_or c.args.self.now.chains.items c.loop-place.place c.index-chain.result.now ≡ c.index-chain.result.now = sym c.index-chain.ensures in
     let more = rw at at (sum_by_more (λ (c : ChainPlan). c.outs) c.args.self.now.chains.items c.loop-place.place c.index-chain.result.now within) in
-    let cells = dealt-at c.args.self.now.lengths.items 0 0 c.args.self.now.chains.items c.loop-place.place c.index-chain.result.now within at in
+    let cells = dealt-at c.args.self.now.lengths.items 0 0 c.args.self.now.chains.items c.loop-place.place within at in
     let wide : length (layout_cells c.args.self.now) ≡ length c.args.self.now.chains.items = length-layout c.args.self.now.lengths.items 0 0 c.args.self.now.chains.items in (
       omega (arith, more, c.loop-place.invariant.0),
-      step_chain (captured (response_bit c.args.self.now.lengths.items c.args.response.now)) (layout_cells c.args.self.now) c.args.bits.now c.loop-place.bits c.loop-place.place [] c.index-bits-place.result c.capture_chain.new.bits
-          (omega arith) c.loop-place-test.true c.loop-place.invariant.1
-          (rw cells (c.capture_chain.ensures (0 + sum_by (λ (c : ChainPlan). c.ins) (take c.loop-place.place c.args.self.now.chains.items)) (0 + sum_by (λ (c : ChainPlan). c.outs) (take c.loop-place.place c.args.self.now.chains.items)) (omega (arith, c.loop-place.invariant.0)))),
+      step_chain (captured (response_bit c.args.self.now.lengths.items c.args.response.now))
+          (layout_cells c.args.self.now) c.args.bits.now c.loop-place.place c.index-bits-place.result c.loop-place.invariant.1 [] c.capture_chain.new.bits (omega arith) c.loop-place-test.true
+          (rw cells (c.capture_chain.ensures (0 + sum_by (λ (c : ChainPlan). c.ins) (take c.loop-place.place c.args.self.now.chains.items))
+          (0 + sum_by (λ (c : ChainPlan). c.outs) (take c.loop-place.place c.args.self.now.chains.items)) (omega (arith, c.loop-place.invariant.0)))),
     )

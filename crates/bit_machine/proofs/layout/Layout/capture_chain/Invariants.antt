@@ -1,6 +1,4 @@
-use Rattle.std.proofs.Common.{◌≡◌, ℕ, ◌+◌, ◌++◌, take}
-use Rattle.std.specs.Prelude.{slice_index}
-use Rattle.std.specs.List.{sum_by, flat_map}
+use Rattle.std.proofs.Common.{◌≡◌, ℕ, ◌+◌, ◌++◌, take, slice_index, sum_by, flat_map}
 use Rattle.plan_model.specs.Cells.{in_cells, flops}
 use Rattle.plan_model.specs.Runs.{captured}
 use Rattle.bit_machine.specs.Sessions.{response_bit}

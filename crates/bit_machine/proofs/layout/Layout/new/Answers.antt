@@ -1,6 +1,4 @@
-use Rattle.std.proofs.Common.{◌∙◌, ap, subst, map}
-use Rattle.std.specs.List.{sum}
-use Rattle.soc_model.specs.Chips.{module_value}
+use Rattle.std.proofs.Common.{◌∙◌, ap, subst, map, sum}
 use Rattle.plan_model.specs.Views.{chain_value}
 use Rattle.bit_machine.specs.Layouts.{IsStarts}
 use Rattle.bit_machine.proofs.LayoutsMade.{layout_from}
@@ -9,7 +7,5 @@ use Rattle.bit_machine.proofs.layout.Layout.new.Goals as goal
 pub returns-clause-layout : goal.returns-clause-layout
 returns-clause-layout c =
     let same = c.deref.ensures.value ∙ c.in_ok-lengths.ensures in
-    layout_from (module_value c.args.module.now) c.args.wrapper.now.scan (map chain_value c.args.wrapper.now.chains.items)
-    (record { lengths = c.in_ok-lengths.lengths; starts = c.in_ok-starts.starts; flops = c.in_ok-starts.flops; chains = c.in_ok-copy_of.field-0 })
-    c.requires.proper c.requires.small c.in_ok-lengths.ensures (subst (λ ns. IsStarts ns c.in_ok-starts.starts.items) same c.in_ok-starts.ensures.starts) (c.in_ok-starts.ensures.flops ∙ ap sum same)
-    (c.in_ok-copy_of.ensures ∙ ap (map chain_value) c.deref-2.ensures.value)
+    layout_from (record { lengths = c.in_ok-lengths.lengths; starts = c.in_ok-starts.starts; flops = c.in_ok-starts.flops; chains = c.in_ok-copy_of.field-0 }) c.requires.proper c.requires.small c.in_ok-lengths.ensures
+    (subst (λ ns. IsStarts ns c.in_ok-starts.starts.items) same c.in_ok-starts.ensures.starts) (c.in_ok-starts.ensures.flops ∙ ap sum same) (c.in_ok-copy_of.ensures ∙ ap (map chain_value) c.deref-2.ensures.value)

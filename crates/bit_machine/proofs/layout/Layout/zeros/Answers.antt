@@ -14,5 +14,5 @@ returns c =
 pub loop-chain-preserved : goal.loop-chain-preserved
 loop-chain-preserved c =
     let e = c.deref-chain-items.ensures.value in
-    mapped_more (λ (h : ChainPlan). replicate (chain_length c.args.self.now.lengths.items h) false) c.args.self.now.chains.items c.loop-chain.chain-index c.chain-item.result c.loop-chain.all.items c.push.new.to.items _ (rw e at c.loop-chain-test.true) (rw e at c.chain-item.is)
-    c.loop-chain.invariant (c.in_ok-zeros.ensures ∙ ap (λ n. replicate n false) (c.length_of-cells.ensures ∙ ap (λ lengths. chain_length lengths c.chain-item.result) c.deref.ensures.value)) c.in_ok-push.ensures.ok
+    mapped_more (λ (h : ChainPlan). replicate (chain_length c.args.self.now.lengths.items h) false) c.args.self.now.chains.items c.loop-chain.chain-index (rw e at c.loop-chain-test.true)
+    (rw e at c.chain-item.is) c.loop-chain.invariant (c.in_ok-zeros.ensures ∙ ap (λ n. replicate n false) (c.length_of-cells.ensures ∙ ap (λ lengths. chain_length lengths c.chain-item.result) c.deref.ensures.value)) c.in_ok-push.ensures.ok

@@ -7,12 +7,12 @@ use Rattle.bit_machine.proofs.Assigning.{next_some, next_machine}
 use Rattle.bit_machine.proofs.machine.Machine.advance.Goals as goal
 
 pub stand_all-requires : goal.stand_all-requires
-stand_all-requires c = next_some c.args.self.now (c.args.self.now.cycle + 1) refl c.if-next-self.true c.requires.machine c.deref_mut.result.now c.deref.result.now c.deref_mut.ensures.value c.deref.ensures.value
+stand_all-requires c = next_some (c.args.self.now.cycle + 1) refl c.if-next-self.true c.requires.machine c.deref_mut.ensures.value c.deref.ensures.value
 
 pub returns-then-next-self-clause-machine : goal.returns-then-next-self-clause-machine
 returns-then-next-self-clause-machine c = λ content tests is.
     let items = with_items_is c.args.self.now.lanes c.stand_all.new.lanes (omega (arith, c.stand_all.ensures.long, ap length c.deref_mut.ensures.value, c.args.self.now.lanes.ok.0)) in
-    next_machine content tests c.args.self.now (with_items c.args.self.now.lanes c.stand_all.new.lanes) (c.args.self.now.cycle + 1) refl c.if-next-self.true
+    next_machine (c.args.self.now.cycle + 1) refl c.if-next-self.true (with_items c.args.self.now.lanes c.stand_all.new.lanes)
     (subst (AreStepped content tests) (sym items) (c.stand_all.ensures.lanes content tests (subst (AreStepped content tests) (sym c.deref_mut.ensures.value) is.lanes)))
     (subst (λ (ls : List SteppedLane). AreNow ls (c.args.self.now.cycle + 1)) (sym items) c.stand_all.ensures.now) is
 

@@ -17,16 +17,16 @@ loop-wire-preserved c = record {
   fit = omega (arith, c.count_capture-counts.ensures.one, c.loop-wire.invariant.fit);
   captures = λ content tests is.
       c.count_capture-counts.ensures.captures ∙ ap (λ n. n + one_capture c.capture_of.result) (c.loop-wire.invariant.captures content tests is)
-      ∙ sym (capture_more content tests c.args.self.now is c.loop-wire.wire c.capture_of.result (c.capture_of.ensures content tests is));
+      ∙ sym (capture_more is c.capture_of.result (c.capture_of.ensures content tests is));
   rights = λ content tests is.
       c.count_capture-counts.ensures.right ∙ ap (λ n. n + one_right c.capture_of.result) (c.loop-wire.invariant.rights content tests is)
-      ∙ sym (right_more content tests c.args.self.now is c.loop-wire.wire c.capture_of.result (c.capture_of.ensures content tests is));
+      ∙ sym (right_more is (c.capture_of.ensures content tests is));
 }
 
 pub returns-clause-captures : goal.returns-clause-captures
 returns-clause-captures c = λ content tests is.
-    c.loop-wire.invariant.captures content tests is ∙ all_captures content tests c.args.self.now is c.loop-wire.wire (omega (arith, c.loop-wire-test.false, c.len-wire-end.ensures, c.args.self.now.users.ok.0))
+    c.loop-wire.invariant.captures content tests is ∙ all_captures is c.loop-wire.wire (omega (arith, c.loop-wire-test.false, c.len-wire-end.ensures, c.args.self.now.users.ok.0))
 
 pub returns-clause-right : goal.returns-clause-right
 returns-clause-right c = λ content tests is.
-    c.loop-wire.invariant.rights content tests is ∙ all_rights content tests c.args.self.now is c.loop-wire.wire (omega (arith, c.loop-wire-test.false, c.len-wire-end.ensures, c.args.self.now.users.ok.0))
+    c.loop-wire.invariant.rights content tests is ∙ all_rights is c.loop-wire.wire (omega (arith, c.loop-wire-test.false, c.len-wire-end.ensures, c.args.self.now.users.ok.0))

@@ -5,8 +5,8 @@ pub returns-in-Some : goal.returns-in-Some
 returns-in-Some c = λ content tests is.
     let u = c.in-Some.ensures.some.user content tests is in
     record {
-      read = λ r. answer_read content tests c.args.self.now is c.args.wire u.0 c.in-Some.stepped.now u.1 c.is_read.result c.is_read.ensures r;
-      only = λ e. answer_compared content tests c.args.self.now c.args.wire u.0 c.in-Some.stepped.now u.1 c.is_read.result c.in-Some.ensures.some.low c.is_read.ensures e;
+      read = λ r. answer_read is c.args.wire u.1 c.is_read.result c.is_read.ensures r;
+      only = λ e. answer_compared u.1 c.in-Some.ensures.some.low c.is_read.ensures e;
     }
 
 pub returns-in-None : goal.returns-in-None

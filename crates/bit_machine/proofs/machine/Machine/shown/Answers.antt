@@ -4,7 +4,7 @@ use Rattle.bit_machine.proofs.machine.Machine.shown.Goals as goal
 pub returns-in-Some : goal.returns-in-Some
 returns-in-Some c = λ content tests is.
     let u = c.in-Some.ensures.some.user content tests is in
-    shown_by content tests c.args.self.now is c.args.wire u.0 c.in-Some.stepped.now u.1 c.shown.result c.shown.ensures
+    shown_by is c.args.wire u.1 c.shown.ensures
 
 pub returns-in-None : goal.returns-in-None
-returns-in-None c = λ content tests is. shown_none content tests c.args.self.now is c.args.wire c.in-None.ensures.none
+returns-in-None c = λ content tests is. shown_none is c.args.wire c.in-None.ensures.none

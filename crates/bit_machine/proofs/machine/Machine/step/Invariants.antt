@@ -11,5 +11,6 @@ invariant-loop-wire l = record {
   change : l.self.change ≡ l.initial.self.change;
   users : l.self.users ≡ l.initial.self.users;
   machine : (content : Content) (tests : List PlannedTest) → IsMachine content tests l.initial.self → IsMachine content tests l.self;
-  bits : (content : Content) (tests : List PlannedTest) → IsMachine content tests l.initial.self → AreWireSteps content tests l.initial.self.cycle l.wire (λ w. get_or l.drive w false) (lanes_state l.initial.self.lanes.items) (lanes_state l.self.lanes.items);
+  bits : (content : Content) (tests : List PlannedTest) → IsMachine content tests l.initial.self →
+      AreWireSteps content tests l.initial.self.cycle l.wire (λ w. get_or l.drive w false) (lanes_state l.initial.self.lanes.items) (lanes_state l.self.lanes.items);
 }

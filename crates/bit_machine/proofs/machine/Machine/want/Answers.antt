@@ -5,7 +5,8 @@ use Rattle.bit_machine.proofs.machine.Machine.want.Goals as goal
 
 pub loop-wire-preserved : goal.loop-wire-preserved
 loop-wire-preserved c = λ content tests is.
-    fill_more (λ w b. b ≡ carried content tests c.args.self.now.cycle w) c.loop-wire.drive c.loop-wire.wire c.wanted.result (omega (arith, c.loop-wire-test.true, c.loop-wire.auto.drive)) (c.wanted.ensures content tests is) (c.loop-wire.invariant content tests is)
+    fill_more (λ w b. b ≡ carried content tests c.args.self.now.cycle w) c.loop-wire.drive c.loop-wire.wire c.wanted.result (omega (arith, c.loop-wire-test.true, c.loop-wire.auto.drive)) (c.wanted.ensures content tests is)
+    (c.loop-wire.invariant content tests is)
 
 pub returns-clause-bits : goal.returns-clause-bits
 returns-clause-bits c = λ content tests is w h. c.loop-wire.invariant content tests is w (omega (arith, h, c.loop-wire-test.false, c.loop-wire.auto.drive))

@@ -4,7 +4,7 @@ use Rattle.bit_machine.proofs.machine.Machine.wanted.Goals as goal
 pub returns-in-Some : goal.returns-in-Some
 returns-in-Some c = λ content tests is.
     let u = c.in-Some.ensures.some.user content tests is in
-    carried_by content tests c.args.self.now is c.args.wire u.0 c.in-Some.stepped.now u.1 c.wanted.result (c.wanted.ensures content (u.1).t c.args.self.now.cycle (u.1).tam (u.1).lane (u.1).now)
+    carried_by is u.1 (c.wanted.ensures content (u.1).t c.args.self.now.cycle (u.1).tam (u.1).lane (u.1).now)
 
 pub returns-in-None : goal.returns-in-None
-returns-in-None c = λ content tests is. carried_none content tests c.args.self.now is c.args.wire c.in-None.ensures.none
+returns-in-None c = λ content tests is. carried_none is c.args.wire c.in-None.ensures.none

@@ -4,5 +4,4 @@ use Rattle.bit_machine.proofs.path.Path.capture.Goals as goal
 
 pub returns-clause-bits : goal.returns-clause-bits
 returns-clause-bits c = λ inputs lengths cells is same.
-    path_captured c.args.base c.args.pattern inputs (c.len.result - c.len-count.result) c.loop-place.place lengths cells c.args.self.now c.args.ring.now c.loop-place.ring is same
-    (omega (arith, c.len.ensures, c.len-count.ensures)) (omega (arith, c.loop-place-test.false, c.len-count.ensures)) c.loop-place.invariant.done
+    path_captured is same (omega (arith, c.len.ensures, c.len-count.ensures)) (omega (arith, c.loop-place-test.false, c.len-count.ensures)) c.loop-place.invariant.done

@@ -1,5 +1,4 @@
-use Rattle.std.proofs.Common.{◌≡◌, ◌<◌, ◌∙◌, sym, length, arith}
-use Rattle.std.specs.Prelude.{slice_index}
+use Rattle.std.proofs.Common.{◌≡◌, ◌<◌, ◌∙◌, sym, length, arith, slice_index}
 use Rattle.bit_machine.specs.Paths.{made_from}
 use Rattle.bit_machine.proofs.PathBits.{path_holds, path_differs, unequal}
 use Rattle.bit_machine.proofs.Walks.{word_has}
@@ -10,8 +9,8 @@ returns-then-bit-is_set c = λ inputs lengths cells is all.
     let within : c.loop-cell.cell < length c.args.self.now.loads = omega (arith, c.loop-cell-test.true, c.len-cell-end.ensures) in
     let made : c.is_set.result ≡ made_from c.args.base c.args.pattern (slice_index c.args.self.now.loads c.loop-cell.cell) 0 =
     c.is_set.ensures ∙ word_has c.of-line.result c.args.self.now.loads c.loop-cell.cell c.word_at-word.result within c.word_at-word.ensures ∙ c.of-line.ensures.bits (slice_index c.args.self.now.loads c.loop-cell.cell) in
-    path_differs c.args.base c.args.pattern inputs c.loop-cell.cell lengths cells c.args.self.now c.args.ring.now is all within (λ same. unequal c.bit.result c.is_set.result c.if-bit-is_set.true (c.bit.ensures ∙ same ∙ sym made))
+    path_differs c.args.base c.args.pattern c.args.ring.now is all c.loop-cell.cell within (λ same. unequal c.bit.result c.is_set.result c.if-bit-is_set.true (c.bit.ensures ∙ same ∙ sym made))
 
 pub returns : goal.returns
 returns c = λ inputs lengths cells is all.
-    path_holds c.args.base c.args.pattern inputs lengths cells c.args.self.now c.args.ring.now is all (λ r h. c.loop-cell.invariant.done r (omega (arith, h, c.loop-cell-test.false, c.len-cell-end.ensures)))
+    path_holds c.args.base c.args.pattern c.args.ring.now is all (λ r h. c.loop-cell.invariant.done r (omega (arith, h, c.loop-cell-test.false, c.len-cell-end.ensures)))

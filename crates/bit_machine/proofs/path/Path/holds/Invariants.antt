@@ -1,5 +1,4 @@
-use Rattle.std.proofs.Common.{◌≡◌, ℕ, ◌-◌, ◌%◌, ◌<◌, get_or, false}
-use Rattle.std.specs.Prelude.{slice_index}
+use Rattle.std.proofs.Common.{◌≡◌, ℕ, ◌-◌, ◌%◌, ◌<◌, get_or, false, slice_index}
 use Rattle.bit_machine.specs.Numbers.{IsLineWord}
 use Rattle.bit_machine.specs.Paths.{made_from}
 use Rattle.bit_machine.proofs.path.Path.holds.Given as goal

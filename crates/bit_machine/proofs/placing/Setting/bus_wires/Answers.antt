@@ -1,5 +1,4 @@
-use Rattle.std.proofs.Common.{◌∙◌, ap, length, arith}
-use Rattle.std.specs.Prelude.{slice_index}
+use Rattle.std.proofs.Common.{◌∙◌, ap, length, arith, slice_index}
 use Rattle.std.proofs.lemmas.List.{length-map}
 use Rattle.plan_model.specs.Plans.{BusValue, PlanValue, widths}
 use Rattle.plan_model.specs.Views.{bus_value}
@@ -18,5 +17,5 @@ returns-clause-first c = c.requires.firsts.first c.args.bus (omega (arith, c.req
 
 pub returns-clause-width : goal.returns-clause-width
 returns-clause-width c =
-    width_is c.plan-plan.result.now.buses.items c.args.bus c.index.result.now c.index.ensures (omega (arith, c.requires.bus, ap (λ (p : PlanValue). length p.buses) c.plan-plan.ensures, length-map c.plan-plan.result.now.buses.items bus_value))
+    width_is c.plan-plan.result.now.buses.items c.args.bus c.index.ensures (omega (arith, c.requires.bus, ap (λ (p : PlanValue). length p.buses) c.plan-plan.ensures, length-map c.plan-plan.result.now.buses.items bus_value))
     ∙ ap (λ (p : PlanValue). slice_index (widths p) c.args.bus) c.plan-plan.ensures

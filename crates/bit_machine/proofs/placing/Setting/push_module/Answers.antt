@@ -1,22 +1,23 @@
 use Rattle.std.proofs.Common.{◌++◌, take, arith}
-use Rattle.soc_model.specs.Chips.{soc_value, module_value}
-use Rattle.bit_machine.specs.Placed.{planned_in, IsPlacedLane}
+use Rattle.soc_model.specs.Chips.{module_value}
+use Rattle.bit_machine.specs.Placed.{planned_in}
 use Rattle.bit_machine.proofs.PlacedTests.{next_test, all_tests, no_tests}
 use Rattle.bit_machine.proofs.placing.Setting.push_module.Goals as goal
 use Rattle.common_lemmas.proofs.Lists.{slice_at}
 
 pub loop-at-init : goal.loop-at-init
-loop-at-init g c = λ done are. no_tests (IsPlacedLane (g.C.Contents.keys c.args.contents.now) (soc_value c.args.self.now.chip.soc.now) c.args.self.now.chip.index.now) done c.args.lanes.now.items are
+loop-at-init g c = λ done are. no_tests are
 
 pub push_test-requires-clause-test_there : goal.push_test-requires-clause-test_there
 push_test-requires-clause-test_there g c = slice_at c.args.module.now.tests.items c.loop-at.at c.index.result.now (omega (arith, c.loop-at-test.true, c.len-at-end.ensures, c.args.module.now.tests.ok.0)) c.index.ensures
 
 pub loop-at-preserved : goal.loop-at-preserved
 loop-at-preserved g c = λ done are.
-    next_test (IsPlacedLane (g.C.Contents.keys c.args.contents.now) (soc_value c.args.self.now.chip.soc.now) c.args.self.now.chip.index.now) c.args.self.now.chip.index.now c.args.place (module_value c.args.module.now) c.args.module.now.tests.items c.loop-at.at c.index.result.now done c.push_test.new.lanes.items
+    next_test c.args.self.now.chip.index.now c.args.place (module_value c.args.module.now) c.args.module.now.tests.items c.loop-at.at done
     (slice_at c.args.module.now.tests.items c.loop-at.at c.index.result.now (omega (arith, c.loop-at-test.true, c.len-at-end.ensures, c.args.module.now.tests.ok.0)) c.index.ensures)
     (c.in_ok-push_test.ensures (done ++ planned_in c.args.self.now.chip.index.now c.args.place (module_value c.args.module.now) (take c.loop-at.at c.args.module.now.tests.items)) (c.loop-at.invariant done are))
 
 pub returns : goal.returns
 returns g c = λ done are.
-    all_tests (IsPlacedLane (g.C.Contents.keys c.args.contents.now) (soc_value c.args.self.now.chip.soc.now) c.args.self.now.chip.index.now) c.args.self.now.chip.index.now c.args.place (module_value c.args.module.now) c.args.module.now.tests.items c.loop-at.at done c.loop-at.lanes.items (omega (arith, c.loop-at-test.false, c.len-at-end.ensures, c.args.module.now.tests.ok.0)) (c.loop-at.invariant done are)
+    all_tests c.args.self.now.chip.index.now c.args.place (module_value c.args.module.now) c.args.module.now.tests.items c.loop-at.at done (omega (arith, c.loop-at-test.false, c.len-at-end.ensures, c.args.module.now.tests.ok.0))
+    (c.loop-at.invariant done are)

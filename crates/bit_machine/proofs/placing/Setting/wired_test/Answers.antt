@@ -14,7 +14,7 @@ pub unreachable-requires : goal.unreachable-requires
 unreachable-requires g c =
     let plan = c.args.self.now.chip.index.now in
     let m = module_value c.args.wrapped.now.core.«module».now in
-    let over = over_wires plan c.args.wrapped.now.core.place m c.args.wrapped.now.test.now c.args.placed.now c.args.bus c.requires.placed c.requires.over in
+    let over = over_wires c.args.wrapped.now.core.place m c.args.wrapped.now.test.now plan c.requires.placed c.requires.over in
     always_wrapped (soc_value c.args.self.now.chip.soc.now) plan (c.requires.good Wrappers).1 c.args.wrapped.now.core.place c.args.wrapped.now.at m c.args.wrapped.now.test.now c.requires.module_there c.requires.test_there c.requires.live over.0 (c.in_default.ensures plan m c.requires.wrappers)
 
 pub index-wrapper-requires : goal.index-wrapper-requires
@@ -22,14 +22,14 @@ index-wrapper-requires g c =
     let plan = c.args.self.now.chip.index.now in
     let m = module_value c.args.wrapped.now.core.«module».now in
     let is : IsModeWrapper plan m c.args.wrapped.now.test.now.scan c.in-Some.long = c.in-Some.ensures plan m c.requires.wrappers in
-    omega (arith, wrapper_within plan m c.args.wrapped.now.test.now.scan c.in-Some.long c.plan.result.now.wrappers.items (sym (ap (λ (p : PlanValue). p.wrappers) c.plan.ensures)) is, c.plan.result.now.wrappers.ok.0)
+    omega (arith, wrapper_within c.plan.result.now.wrappers.items (sym (ap (λ (p : PlanValue). p.wrappers) c.plan.ensures)) is, c.plan.result.now.wrappers.ok.0)
 
 pub wrapped_paths-requires-clause-proper : goal.wrapped_paths-requires-clause-proper
 wrapped_paths-requires-clause-proper g c =
     let plan = c.args.self.now.chip.index.now in
     let m = module_value c.args.wrapped.now.core.«module».now in
     let is : IsModeWrapper plan m c.args.wrapped.now.test.now.scan c.in-Some.long = c.in-Some.ensures plan m c.requires.wrappers in
-    let same : is.wrapper ≡ wrapper_value c.index-wrapper.result.now = found_wrapper plan m c.args.wrapped.now.test.now.scan c.in-Some.long c.plan.result.now.wrappers.items c.index-wrapper.result.now (sym (ap (λ (p : PlanValue). p.wrappers) c.plan.ensures)) is c.index-wrapper.ensures in
+    let same : is.wrapper ≡ wrapper_value c.index-wrapper.result.now = found_wrapper c.plan.result.now.wrappers.items (sym (ap (λ (p : PlanValue). p.wrappers) c.plan.ensures)) is c.index-wrapper.ensures in
     subst (λ (v : WrapperValue). IsProper m v.scan v.chains) same (subst (λ (scan : Bool). IsProper m scan is.wrapper.chains) (sym is.mode) is.proper)
 
 pub wrapped_paths-requires-clause-small : goal.wrapped_paths-requires-clause-small
@@ -39,19 +39,20 @@ pub bus_wires-first_wire-requires-clause-bus : goal.bus_wires-first_wire-require
 bus_wires-first_wire-requires-clause-bus g c =
     let plan = c.args.self.now.chip.index.now in
     let m = module_value c.args.wrapped.now.core.«module».now in
-    let over = over_wires plan c.args.wrapped.now.core.place m c.args.wrapped.now.test.now c.args.placed.now c.args.bus c.requires.placed c.requires.over in
-    omega (arith, over.1, bus_there (soc_value c.args.self.now.chip.soc.now) (bare_limits plan) plan c.requires.good c.args.wrapped.now.core.place c.args.wrapped.now.at m c.args.wrapped.now.test.now c.requires.module_there c.requires.test_there c.requires.live over.0)
+    let over = over_wires c.args.wrapped.now.core.place m c.args.wrapped.now.test.now plan c.requires.placed c.requires.over in
+    omega (arith, over.1, bus_there (soc_value c.args.self.now.chip.soc.now) plan c.args.wrapped.now.core.place c.args.wrapped.now.at c.requires.module_there c.requires.test_there c.requires.live (bare_limits plan) c.requires.good over.0)
 
 pub returns : goal.returns
 returns g c =
     let soc = soc_value c.args.self.now.chip.soc.now in
     let plan = c.args.self.now.chip.index.now in
     let m = module_value c.args.wrapped.now.core.«module».now in
-    let over = over_wires plan c.args.wrapped.now.core.place m c.args.wrapped.now.test.now c.args.placed.now c.args.bus c.requires.placed c.requires.over in
+    let over = over_wires c.args.wrapped.now.core.place m c.args.wrapped.now.test.now plan c.requires.placed c.requires.over in
     let is : IsModeWrapper plan m c.args.wrapped.now.test.now.scan c.in-Some.long = c.in-Some.ensures plan m c.requires.wrappers in
-    let same : is.wrapper ≡ wrapper_value c.index-wrapper.result.now = found_wrapper plan m c.args.wrapped.now.test.now.scan c.in-Some.long c.plan.result.now.wrappers.items c.index-wrapper.result.now (sym (ap (λ (p : PlanValue). p.wrappers) c.plan.ensures)) is c.index-wrapper.ensures in
-    let cells = mode_cells plan m c.args.wrapped.now.test.now c.in-Some.long over.0 is in
-    wired_placed (g.C.Contents.keys c.args.contents.now) soc c.requires.sound (bare_limits plan) plan c.requires.good c.args.wrapped.now.core.place c.args.wrapped.now.at m c.args.wrapped.now.test.now c.args.placed.now c.args.bus _ c.requires.module_there c.requires.test_there c.requires.live c.requires.placed c.requires.over (record {
+    let same : is.wrapper ≡ wrapper_value c.index-wrapper.result.now = found_wrapper c.plan.result.now.wrappers.items (sym (ap (λ (p : PlanValue). p.wrappers) c.plan.ensures)) is c.index-wrapper.ensures in
+    let cells = mode_cells c.args.wrapped.now.test.now over.0 is in
+    wired_placed soc plan c.args.wrapped.now.core.place c.args.wrapped.now.at c.requires.module_there c.requires.test_there c.requires.live (g.C.Contents.keys c.args.contents.now) _ c.requires.placed c.requires.sound
+    (bare_limits plan) c.requires.good c.requires.over (record {
       tam = refl;
       key = c.key.ensures;
       start_is = refl;
@@ -62,5 +63,5 @@ returns g c =
       patterns = refl;
       first_wire = c.bus_wires-first_wire.ensures.first;
       width = c.bus_wires-first_wire.ensures.width;
-      paths = own_paths plan m c.args.wrapped.now.test.now c.in-Some.long c.index-wrapper.result.now c.in_ok-paths.paths.items over.0 is same c.in_ok-paths.ensures;
+      paths = own_paths c.args.wrapped.now.test.now over.0 is c.index-wrapper.result.now same c.in_ok-paths.ensures;
     })

@@ -10,4 +10,4 @@ returns c =
     let within : c.before_head-first.result < length c.self.inside.bits = omega (arith, c.before_head-first.ensures.within, some) in
     let before = rw (sym some) at c.before_head-first.ensures.before in
     subst (λ (bits : List Bool). drop c.before_head-first.result bits ++ take c.before_head-first.result bits ≡ entered c.args.bit c.args.self.now) (sym c.put.ensures)
-    (enter_at c.self.inside.bits c.self.inside.head c.before_head-first.result c.args.bit within head before ∙ ap (entered c.args.bit) c.self.view_is)
+    (enter_at c.self.inside.bits c.before_head-first.result c.args.bit c.self.inside.head within head before ∙ ap (entered c.args.bit) c.self.view_is)

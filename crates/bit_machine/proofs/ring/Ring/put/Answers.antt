@@ -4,9 +4,9 @@ use Rattle.bit_machine.proofs.ring.Ring.put.Goals as goal
 
 pub returns : goal.returns
 returns c =
-    let fits : c.self.inside.head ≤ length c.self.inside.bits = head_fits c.self.inside.head c.self.inside.bits c.self.invariant in
+    let fits : c.self.inside.head ≤ length c.self.inside.bits = head_fits c.self.inside.bits c.self.inside.head c.self.invariant in
     let some : length c.self.inside.bits ≡ c.len.result = omega (arith, c.len.ensures) in
-    let long : length c.args.self.now ≡ length c.self.inside.bits = ap length (sym c.self.view_is) ∙ ring_long c.self.inside.head c.self.inside.bits fits in
+    let long : length c.args.self.now ≡ length c.self.inside.bits = ap length (sym c.self.view_is) ∙ ring_long c.self.inside.bits c.self.inside.head fits in
     let cell : c.args.cell < length c.self.inside.bits = omega (arith, long, c.requires) in
     let within : c.place_of-place.result < length c.self.inside.bits = omega (arith, c.place_of-place.ensures.within, some) in
     let place = rw (sym some) at c.place_of-place.ensures.place in

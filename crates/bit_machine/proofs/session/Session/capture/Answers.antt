@@ -12,7 +12,7 @@ invariant_of-self c =
     let steps = c.capture.ensures ∙ ap (each_with (captured (response_bit c.self.inside.layout.lengths.items c.args.response.now)) (layout_cells c.self.inside.layout)) c.deref_mut.ensures.value in (
       c.self.invariant.0,
       subst (IsLong c.self.inside.layout) (sym (with_items_is c.self.inside.bits c.capture.new.bits (omega (arith, same, c.self.inside.bits.ok.0))))
-          (captured_long c.self.inside.layout (response_bit c.self.inside.layout.lengths.items c.args.response.now) c.self.inside.bits.items c.capture.new.bits c.self.invariant.1 steps),
+          (captured_long c.self.inside.layout c.self.inside.bits.items c.self.invariant.1 (response_bit c.self.inside.layout.lengths.items c.args.response.now) steps),
     )
 
 pub returns-clause-bits : goal.returns-clause-bits
@@ -20,4 +20,4 @@ returns-clause-bits c = λ k drive.
     let same = c.capture.auto.bits ∙ ap length c.deref_mut.ensures.value in
     let steps = c.capture.ensures ∙ ap (each_with (captured (response_bit c.self.inside.layout.lengths.items c.args.response.now)) (layout_cells c.self.inside.layout)) c.deref_mut.ensures.value in
     with_items_is c.self.inside.bits c.capture.new.bits (omega (arith, same, c.self.inside.bits.ok.0))
-    ∙ captured_bits c.self.inside.layout c.self.inside.bits.items c.capture.new.bits c.args.response.now c.args.self.now k drive c.self.invariant.1 c.self.view_is steps
+    ∙ captured_bits c.self.inside.layout c.self.inside.bits.items c.self.invariant.1 c.args.response.now k drive c.self.view_is steps

@@ -11,7 +11,7 @@ invariant_of-self c =
     let steps = c.shift_all.ensures.bits ∙ ap (each_with entered c.args.drive.now) c.deref_mut.ensures.value in (
       c.self.invariant.0,
       subst (IsLong c.self.inside.layout) (sym (with_items_is c.self.inside.bits c.shift_all.new.chains (omega (arith, same, c.self.inside.bits.ok.0))))
-          (shifted_long c.self.inside.layout c.args.drive.now c.self.inside.bits.items c.shift_all.new.chains c.self.invariant.1 steps),
+          (shifted_long c.self.inside.layout c.self.inside.bits.items c.self.invariant.1 c.args.drive.now steps),
     )
 
 pub returns-clause-bits : goal.returns-clause-bits
@@ -19,4 +19,4 @@ returns-clause-bits c = λ response.
     let same = c.shift_all.auto.chains ∙ ap length c.deref_mut.ensures.value in
     let steps = c.shift_all.ensures.bits ∙ ap (each_with entered c.args.drive.now) c.deref_mut.ensures.value in
     with_items_is c.self.inside.bits c.shift_all.new.chains (omega (arith, same, c.self.inside.bits.ok.0))
-    ∙ shifted_bits c.self.inside.layout c.self.inside.bits.items c.shift_all.new.chains c.args.drive.now c.args.self.now response c.self.invariant.1 c.self.view_is c.requires.driven steps
+    ∙ shifted_bits c.self.inside.layout c.self.inside.bits.items c.self.invariant.1 c.args.drive.now response c.self.view_is c.requires.driven steps

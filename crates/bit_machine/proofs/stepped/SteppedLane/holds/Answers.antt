@@ -1,15 +1,13 @@
-use Rattle.std.proofs.Common.{◌≡◌, ◌<◌, ◌≤◌, Some, true, false, length, sym, arith}
-use Rattle.std.specs.Prelude.{slice_get}
+use Rattle.std.proofs.Common.{◌≡◌, ◌<◌, ◌≤◌, Some, true, false, length, sym, arith, slice_get}
 use Rattle.bit_machine.proofs.LaneSteps.{ring_long, path_holds_in, path_holds_next, all_hold, one_differs}
-use Rattle.bit_machine.proofs.stepped.SteppedLane.holds.Goals as goal
 use Rattle.common_lemmas.proofs.Lists.{slice_at}
+use Rattle.bit_machine.proofs.stepped.SteppedLane.holds.Goals as goal
 
 pub returns-then-not-holds : goal.returns-then-not-holds
 returns-then-not-holds c = λ content t tam is.
     let within : c.loop-chain.chain < length c.args.self.now.lane.paths.items = omega (arith, c.loop-chain-test.true, c.len-chain-end.ensures, c.args.self.now.lane.paths.ok.0) in
     let at : slice_get c.args.self.now.lane.paths.items c.loop-chain.chain ≡ Some c.index-path.result.now = slice_at c.args.self.now.lane.paths.items c.loop-chain.chain c.index-path.result.now within c.index-path.ensures in
-    one_differs content t c.args.self.now c.args.pattern c.loop-chain.chain tam is c.requires.rings within
-    (path_holds_in content t c.args.self.now c.args.pattern c.loop-chain.chain c.index-path.result.now c.index.result.now false tam is c.requires.rings at c.index.ensures
+    one_differs tam is c.requires.rings c.args.pattern c.loop-chain.chain within (path_holds_in tam is c.requires.rings c.args.pattern c.loop-chain.chain false at c.index.ensures
     (λ inputs lengths cells path all. rw (sym c.if-not-holds.true) (c.holds.ensures inputs lengths cells path all)))
 
 pub loop-chain-preserved : goal.loop-chain-preserved
@@ -17,16 +15,15 @@ loop-chain-preserved c = λ content t tam is.
     let within : c.loop-chain.chain < length c.args.self.now.lane.paths.items = omega (arith, c.loop-chain-test.true, c.len-chain-end.ensures, c.args.self.now.lane.paths.ok.0) in
     let at : slice_get c.args.self.now.lane.paths.items c.loop-chain.chain ≡ Some c.index-path.result.now = slice_at c.args.self.now.lane.paths.items c.loop-chain.chain c.index-path.result.now within c.index-path.ensures in
     path_holds_next content t c.args.self.now c.args.pattern c.loop-chain.chain (c.loop-chain.invariant content t tam is)
-    (path_holds_in content t c.args.self.now c.args.pattern c.loop-chain.chain c.index-path.result.now c.index.result.now true tam is c.requires.rings at c.index.ensures
-    (λ inputs lengths cells path all. rw (sym c.if-not-holds.false) (c.holds.ensures inputs lengths cells path all)))
+    (path_holds_in tam is c.requires.rings c.args.pattern c.loop-chain.chain true at c.index.ensures (λ inputs lengths cells path all. rw (sym c.if-not-holds.false) (c.holds.ensures inputs lengths cells path all)))
 
 pub holds-requires-clause-fits : goal.holds-requires-clause-fits
 holds-requires-clause-fits c =
     let within : c.loop-chain.chain < length c.args.self.now.lane.paths.items = omega (arith, c.loop-chain-test.true, c.len-chain-end.ensures, c.args.self.now.lane.paths.ok.0) in
     let at : slice_get c.args.self.now.lane.paths.items c.loop-chain.chain ≡ Some c.index-path.result.now = slice_at c.args.self.now.lane.paths.items c.loop-chain.chain c.index-path.result.now within c.index-path.ensures in
-    omega (arith, ring_long c.args.self.now c.loop-chain.chain c.index-path.result.now c.index.result.now c.requires.rings at c.index.ensures, (c.requires.ready.paths c.loop-chain.chain c.index-path.result.now at).loads)
+    omega (arith, ring_long c.loop-chain.chain c.requires.rings at c.index.ensures, (c.requires.ready.paths c.loop-chain.chain c.index-path.result.now at).loads)
 
 pub returns : goal.returns
 returns c = λ content t tam is.
     let past : length c.args.self.now.lane.paths.items ≤ c.loop-chain.chain = omega (arith, c.loop-chain-test.false, c.len-chain-end.ensures, c.args.self.now.lane.paths.ok.0) in
-    all_hold content t c.args.self.now c.args.pattern c.loop-chain.chain tam is c.requires.rings past (c.loop-chain.invariant content t tam is)
+    all_hold tam is c.requires.rings c.args.pattern c.loop-chain.chain past (c.loop-chain.invariant content t tam is)

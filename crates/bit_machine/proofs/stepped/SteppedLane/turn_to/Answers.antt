@@ -1,5 +1,4 @@
-use Rattle.std.proofs.Common.{◌≡◌, ◌∙◌, ℕ, Some, List, length, ap, sym, subst, arith}
-use Rattle.std.specs.Prelude.{slice_get, slice_index}
+use Rattle.std.proofs.Common.{◌≡◌, ◌∙◌, ℕ, Some, List, length, ap, sym, subst, arith, slice_get, slice_index}
 use Rattle.std.specs.Vec.{with_items}
 use Rattle.std.proofs.lemmas.List.{with_items_is}
 use Rattle.std.proofs.lemmas.Option.{same_Some}
@@ -18,5 +17,6 @@ returns-clause-pages c =
       each = λ page is. subst
           (λ (page : Page). (j : ℕ) (p : Path) → slice_get s.lane.paths.items j ≡ Some p → IsPageWord s.lane.key page p.loads (slice_index (with_items s.pages c.fill_words.new.words).items j)) (same_Some _ _ is)
           (λ j p at. subst (λ words. IsPageWord s.lane.key c.args.page p.loads (slice_index words j)) (sym items)
-          (page_word c.of-line.result s.lane.key c.args.page p.loads (slice_index c.fill_words.new.words j) c.of-line.ensures.bits (c.fill_words.ensures.words j p (subst (λ (paths : List Path). slice_get paths j ≡ Some p) (sym c.deref.ensures.value) at))));
+          (page_word c.of-line.result s.lane.key c.args.page p.loads (slice_index c.fill_words.new.words j) c.of-line.ensures.bits
+          (c.fill_words.ensures.words j p (subst (λ (paths : List Path). slice_get paths j ≡ Some p) (sym c.deref.ensures.value) at))));
     }

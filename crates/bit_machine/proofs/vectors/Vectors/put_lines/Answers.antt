@@ -13,7 +13,7 @@ put_tests-requires-clause-narrow g c =
 pub put_tests-requires-clause-lanes : goal.put_tests-requires-clause-lanes
 put_tests-requires-clause-lanes g c =
     let room = c.requires.room in
-    subst (λ (lanes : List Lane). AreSomeLanes (g.C.Contents.keys c.args.contents.now) lanes c.args.self.now.wires) (sym c.deref.ensures.value) (vectors_some (g.C.Contents.keys c.args.contents.now) room.soc room.plan c.args.self.now room.are)
+    subst (λ (lanes : List Lane). AreSomeLanes (g.C.Contents.keys c.args.contents.now) lanes c.args.self.now.wires) (sym c.deref.ensures.value) (vectors_some c.args.self.now room.are)
 
 pub put_tests-requires-clause-rows : goal.put_tests-requires-clause-rows
 put_tests-requires-clause-rows g c =
@@ -22,5 +22,5 @@ put_tests-requires-clause-rows g c =
 
 pub returns-clause-lines : goal.returns-clause-lines
 returns-clause-lines g c = λ soc plan content marks are stand r h.
-    vectors_lines (g.C.Contents.keys c.args.contents.now) (g.C.Contents.drive c.args.contents.now) (g.C.Contents.mark c.args.contents.now) soc plan content marks c.args.self.now c.args.from c.args.count c.put_tests.new.text are stand
-    (λ content marks tests are on r h. c.put_tests.ensures.lines content marks tests (subst (λ (lanes : List Lane). AreLanes (IsFilled (g.C.Contents.drive c.args.contents.now) (g.C.Contents.mark c.args.contents.now) content marks) tests lanes) (sym c.deref.ensures.value) are) on r h) r h
+    vectors_lines c.args.self.now c.args.from c.args.count c.put_tests.new.text are stand (λ content marks tests are on r h. c.put_tests.ensures.lines content marks tests
+    (subst (λ (lanes : List Lane). AreLanes (IsFilled (g.C.Contents.drive c.args.contents.now) (g.C.Contents.mark c.args.contents.now) content marks) tests lanes) (sym c.deref.ensures.value) are) on r h) r h

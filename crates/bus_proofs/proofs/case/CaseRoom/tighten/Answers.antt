@@ -1,12 +1,12 @@
-use Rattle.std.proofs.Common.{List, refl, ap, ◌∙◌}
-use Rattle.bus_proofs.specs.Cases.{Interval, spare, tightened, tightened_by}
+use Rattle.std.proofs.Common.{refl, ap, ◌∙◌}
+use Rattle.bus_proofs.specs.Cases.{spare, tightened, tightened_by}
 use Rattle.bus_proofs.proofs.Intervals.{tight_length}
-use Rattle.bus_proofs.proofs.CaseRooms.{bits_same}
+use Rattle.bus_proofs.proofs.Bits.{bits_same}
 use Rattle.bus_proofs.proofs.case.CaseRoom.tighten.Goals as goal
 
 pub returns-clause-case : goal.returns-clause-case
 returns-clause-case c = λ e is. record {
-  intervals = c.tighten_ranks.ensures.intervals ∙ ap (λ (js : List Interval). tightened_by (spare c.args.self.now.widths.wires js) js) is.intervals;
-  bits = bits_same c.args.self.now.modules c.args.self.now.ranks.may.items e (tightened c.args.self.now.widths.wires e)
+  intervals = c.tighten_ranks.ensures.intervals ∙ ap (λ js. tightened_by (spare c.args.self.now.widths.wires js) js) is.intervals;
+  bits = bits_same e (tightened c.args.self.now.widths.wires e)
       (tight_length (spare c.args.self.now.widths.wires e.intervals) e.intervals) refl refl is.bits;
 }

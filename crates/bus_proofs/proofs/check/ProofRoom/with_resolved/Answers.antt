@@ -1,5 +1,4 @@
-use Rattle.std.proofs.Common.{◌≡◌, ◌≤◌, ℕ, Some, length, map, sym, ◌∙◌, subst, arith}
-use Rattle.std.specs.Prelude.{List, slice_get}
+use Rattle.std.proofs.Common.{◌≡◌, ◌≤◌, ℕ, Some, length, map, sym, ◌∙◌, subst, arith, List, slice_get}
 use Rattle.std.proofs.lemmas.List.{length-map}
 use Rattle.soc_model.specs.Chips.{module_value, soc_value}
 use Rattle.soc_model.specs.declared.Module.{Module}

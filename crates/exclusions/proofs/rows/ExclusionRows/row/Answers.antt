@@ -1,5 +1,4 @@
-use Rattle.std.proofs.Common.{◌≡◌, ◌∙◌, ℕ, ◌<◌, Some, length, ap, arith, rules}
-use Rattle.std.specs.Prelude.{slice_get}
+use Rattle.std.proofs.Common.{◌≡◌, ◌∙◌, ℕ, ◌<◌, Some, length, ap, arith, rules, slice_get}
 use Rattle.exclusions.specs.declared.facts.TestFacts.{TestFacts}
 use Rattle.live_tests.specs.Names.{precedences}
 use Rattle.exclusions.specs.Marks.{AreAfter, AreBefore, is_marked}

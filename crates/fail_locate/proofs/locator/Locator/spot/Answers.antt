@@ -1,5 +1,4 @@
-use Rattle.std.proofs.Common.{◌≡◌, ℕ, ◌<◌, ◌≤◌, List, Option, None, Some, length, sym, ◌∙◌, ap, subst, rules}
-use Rattle.std.specs.Prelude.{slice_get, slice_index, IfNone}
+use Rattle.std.proofs.Common.{◌≡◌, ℕ, ◌<◌, ◌≤◌, List, Option, None, Some, length, sym, ◌∙◌, ap, subst, rules, slice_get, slice_index, IfNone}
 use Rattle.std.specs.List.Sorted.{IsNonDecreasing}
 use Rattle.soc_model.specs.Chips.{soc_value}
 use Rattle.plan_model.specs.Plans.{planned, widths}

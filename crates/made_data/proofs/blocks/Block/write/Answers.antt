@@ -1,5 +1,4 @@
-use Rattle.std.proofs.Common.{◌++◌, ◌≤◌, [], ◌∙◌, ap, sym, map, false, List, ℕ, arith}
-use Rattle.std.specs.Prelude.{codes}
+use Rattle.std.proofs.Common.{◌++◌, ◌≤◌, [], ◌∙◌, ap, sym, map, false, List, ℕ, arith, codes}
 use Rattle.std.proofs.lemmas.List.{append-nil}
 use Rattle.outside.proofs.PieceLemmas.{puts_then}
 use Rattle.made_data.specs.Parts.{part_value, parts_text}

@@ -1,5 +1,4 @@
-use Rattle.std.proofs.Common.{◌+◌, ◌∙◌, List, ap, length, map, subst, sym, arith}
-use Rattle.std.specs.List.{All, sum_by}
+use Rattle.std.proofs.Common.{◌+◌, ◌∙◌, List, ap, length, map, subst, sym, arith, All, sum_by}
 use Rattle.soc_model.specs.Chips.{soc_value}
 use Rattle.made_data.specs.declared.parts.Part.{Part}
 use Rattle.made_data.specs.Parts.{IsSmallPart, part_length, part_value}

@@ -1,9 +1,7 @@
 use Rattle.std.proofs.Common.{◌<◌, length, sym, subst, arith}
-use Rattle.resource_table.specs.Calm.{IsCalm}
-use Rattle.resource_table.specs.Jobs.{job_value, test_value}
+use Rattle.resource_table.specs.{Calm.IsCalm, Jobs.job_value, Jobs.test_value}
 use Rattle.resource_table.specs.Schedules.{TableValue, last_end, StaysWithin, Fits}
-use Rattle.resource_table.proofs.KeptStarts.{wanted_is, calm_within, steps_low}
-use Rattle.resource_table.proofs.Schedules.{fits_at_last}
+use Rattle.resource_table.proofs.{KeptStarts.wanted_is, KeptStarts.calm_within, KeptStarts.steps_low, Schedules.fits_at_last}
 use Rattle.resource_table.proofs.table.TableOf.calm_start.Goals as goal
 
 pub returns-then-not-are_low-clause-fits : goal.returns-then-not-are_low-clause-fits
@@ -21,6 +19,6 @@ returns-clause-fits g c =
     record {
       apart = c.after_times.ensures.apart;
       power = subst (λ (t : TableValue). StaysWithin t.job t.placed c.args.test c.after_times.result) c.self.view_is
-          (calm_within (job_value c.self.inside.own) c.self.inside.trail c.self.inside.ends c.self.inside.lasts c.self.inside.draws c.self.invariant.0 c.args.test inside (test_value c.index.result.now) wanted c.args.most c.args.calm c.after_times.result c.deref.result.now c.deref.ensures.value calm (omega (arith, from, c.max-first.ensures)) (steps_low c.deref.result.now c.args.most (c.are_low.ensures c.if-not-are_low.false)));
+          (calm_within c.self.invariant.0 c.args.test inside (test_value c.index.result.now) wanted c.args.most c.args.calm c.after_times.result c.deref.result.now c.deref.ensures.value calm (omega (arith, from, c.max-first.ensures)) (steps_low c.deref.result.now c.args.most (c.are_low.ensures c.if-not-are_low.false)));
       after = (λ n p at before. let end = c.ready.ensures.after n p at before in omega (arith, end, from, c.max-first.ensures));
     }

@@ -1,5 +1,4 @@
-use Rattle.resource_table.specs.Jobs.{job_value}
-use Rattle.resource_table.proofs.KeptMarks.{without_last}
+use Rattle.resource_table.{specs.Jobs.job_value, proofs.KeptMarks.without_last}
 use Rattle.resource_table.proofs.table.TableOf.forget_points.Goals as goal
 
 pub invariant_of-self : goal.invariant_of-self

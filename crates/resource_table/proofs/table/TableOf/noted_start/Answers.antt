@@ -1,7 +1,5 @@
 use Rattle.std.proofs.Common.{◌≡◌, ◌<◌, ◌+◌, length, sym, subst}
-use Rattle.resource_table.specs.declared.history.Note.{Note}
-use Rattle.resource_table.specs.Jobs.{job_value}
-use Rattle.resource_table.specs.Schedules.{TableValue, IsEarliest}
+use Rattle.resource_table.specs.{declared.history.Note.Note, Jobs.job_value, Schedules.TableValue, Schedules.IsEarliest}
 use Rattle.resource_table.proofs.Bounds.{bounded_note}
 use Rattle.resource_table.proofs.table.TableOf.noted_start.Goals as goal
 

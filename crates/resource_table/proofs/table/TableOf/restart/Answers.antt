@@ -1,15 +1,8 @@
-use Rattle.std.proofs.Common.{◌≡◌, ◌∙◌, ℕ, Option, List, length, map, sym, subst, ap, arith}
-use Rattle.std.specs.Vec.{with_items}
-use Rattle.std.proofs.lemmas.List.{with_items_is, length-map}
-use Rattle.resource_table.specs.declared.Job.{Job}
-use Rattle.resource_table.specs.declared.JobTest.{JobTest}
-use Rattle.resource_table.specs.declared.Placement.{Placement}
-use Rattle.resource_table.specs.Befores.{listed, AreListed}
-use Rattle.resource_table.specs.BusyTimes.{AreTimes}
-use Rattle.resource_table.specs.Kept.{IsKept, IsProfiled, IsBounded}
-use Rattle.resource_table.specs.Jobs.{TestValue, JobValue, test_value, job_value, tests_over, job_over, IsSoundJob}
-use Rattle.resource_table.specs.Schedules.{TableValue}
-use Rattle.resource_table.specs.declared.table.Rows.{Rows}
+use Rattle.std.proofs.Common.{◌≡◌, ◌∙◌, ℕ, Option, List, length, map, sym, ap, arith}
+use Rattle.std.{specs.Vec.with_items, proofs.lemmas.List.with_items_is, proofs.lemmas.List.length-map}
+use Rattle.resource_table.specs.declared.{Job.Job, JobTest.JobTest, Placement.Placement, table.Rows.Rows}
+use Rattle.resource_table.specs.{Befores.listed, Schedules.TableValue}
+use Rattle.resource_table.specs.Jobs.{JobValue, test_value, job_value, tests_over, job_over}
 use Rattle.resource_table.proofs.Restarts.{rows_emptied, kept_anew, length-tests_over}
 use Rattle.resource_table.proofs.table.TableOf.restart.Goals as goal
 
@@ -18,10 +11,10 @@ same_job : (own : Job) (new read : List JobTest) (buses : List (Option ℕ)) (le
     job_value (record { tests = with_items own.tests new; before = own.before; power = own.power }) ≡ job_over buses lengths (job_value own)
 same_job own new read buses lengths read_is new_is =
     let values = map test_value own.tests.items in
-    let tests : map test_value new ≡ tests_over buses lengths values = new_is ∙ ap (λ (v : List JobTest). tests_over buses lengths (map test_value v)) read_is in
+    let tests = new_is ∙ ap (λ v. tests_over buses lengths (map test_value v)) read_is in
     let long = ap length tests ∙ length-tests_over buses lengths values in
-    let items : (with_items own.tests new).items ≡ new = with_items_is own.tests new (omega (arith, long, length-map new test_value, length-map own.tests.items test_value, own.tests.ok.0)) in
-    ap (λ (v : List TestValue). (let j : JobValue = record { tests = v; before = own.before.items; power = own.power } in j)) (ap (map test_value) items ∙ tests)
+    let items = with_items_is own.tests new (omega (arith, long, length-map new test_value, length-map own.tests.items test_value, own.tests.ok.0)) in
+    ap (λ v. (let j : JobValue = record { tests = v; before = own.before.items; power = own.power } in j)) (ap (map test_value) items ∙ tests)
 
 pub invariant_of-self : goal.invariant_of-self
 invariant_of-self g c =
@@ -30,27 +23,25 @@ invariant_of-self g c =
     let old = job_value own in
     let buses = c.args.buses.now in
     let lengths = c.args.lengths.now in
-    let job : old ≡ c.args.self.now.job = ap (λ (t : TableValue). t.job) c.self.view_is in
-    let long : length old.tests ≡ length c.args.self.now.job.tests = ap (λ (j : JobValue). length j.tests) job in
-    let sound : IsSoundJob (job_over buses lengths old) = subst (λ (j : JobValue). IsSoundJob (job_over buses lengths j)) (sym job) c.requires.sound in
+    let job = ap (λ (t : TableValue). t.job) c.self.view_is in
+    let long = ap (λ (j : JobValue). length j.tests) job in
+    let sound = rw (← job) at c.requires.sound in
     let same = same_job own c.send_over.new.tests c.deref_mut.result.now buses lengths c.deref_mut.ensures.value c.send_over.ensures in
     let rows : Rows = record { ends = c.clear_ends.new.ends; lasts = c.clear.new.self; draws = c.clear-2.new.self; points = c.clear-3.new.self; trail = c.clear_trail.new.trail; bounds = c.forget_notes.new.history } in
-    subst (λ (j : JobValue). IsKept j rows.trail rows.ends rows.lasts rows.draws × AreListed j (map listed was.before.items) × IsProfiled j rows.trail rows.draws rows.points × AreTimes j rows.trail.items c.clear_times.new.times × IsBounded j rows.trail.items rows.bounds) (sym same)
-    (kept_anew old buses lengths sound (c.requires.buses ∙ sym long) (c.requires.lengths ∙ sym long) c.requires.room rows
-    (rows_emptied old was.trail was.ends was.lasts was.draws was.points was.bounds c.self.invariant.0 c.self.invariant.2 c.self.invariant.4 rows
+    rw same (kept_anew old buses lengths sound (c.requires.buses ∙ sym long) (c.requires.lengths ∙ sym long) c.requires.room rows
+    (rows_emptied c.self.invariant.0 c.self.invariant.2 c.self.invariant.4 rows
     c.clear_trail.ensures.items c.clear_trail.ensures.room c.clear_ends.ensures c.clear.ensures.items c.clear.ensures.capacity c.clear-2.ensures.items c.clear-2.ensures.capacity c.clear-3.ensures.items c.clear-3.ensures.capacity
     c.forget_notes.ensures.values c.forget_notes.ensures.marks c.forget_notes.ensures.history c.forget_notes.ensures.room)
     (map listed was.before.items) c.self.invariant.1 c.clear_times.new.times (c.clear_times.ensures old was.trail.items c.self.invariant.3))
 
 pub returns-clause-empty : goal.returns-clause-empty
 returns-clause-empty g c =
-    let own = c.self.inside.own in
     let buses = c.args.buses.now in
     let lengths = c.args.lengths.now in
-    let job : job_value own ≡ c.args.self.now.job = ap (λ (t : TableValue). t.job) c.self.view_is in
-    let same = same_job own c.send_over.new.tests c.deref_mut.result.now buses lengths c.deref_mut.ensures.value c.send_over.ensures in
-    ap (λ (j : JobValue). (let t : TableValue = record { job = j; placed = c.clear_trail.new.trail.items } in t)) (same ∙ ap (job_over buses lengths) job)
-    ∙ ap (λ (v : List Placement). (let t : TableValue = record { job = job_over buses lengths c.args.self.now.job; placed = v } in t)) c.clear_trail.ensures.items
+    let job = ap (λ (t : TableValue). t.job) c.self.view_is in
+    let same = same_job c.self.inside.own c.send_over.new.tests c.deref_mut.result.now buses lengths c.deref_mut.ensures.value c.send_over.ensures in
+    ap (λ j. (let t : TableValue = record { job = j; placed = c.clear_trail.new.trail.items } in t)) (same ∙ ap (job_over buses lengths) job)
+    ∙ ap (λ v. (let t : TableValue = record { job = job_over buses lengths c.args.self.now.job; placed = v } in t)) c.clear_trail.ensures.items
 
 pub returns-clause-sound : goal.returns-clause-sound
 returns-clause-sound g c = (invariant_of-self g c).0.sound

@@ -1,6 +1,4 @@
-use Rattle.std.proofs.Common.{◌≡◌, ◌∙◌, [], ℕ, List, length, sym, ap, subst, arith}
-use Rattle.std.specs.Prelude.{nat_eq, slice_index_or}
-use Rattle.std.specs.List.{filter}
+use Rattle.std.proofs.Common.{◌≡◌, ◌∙◌, [], ℕ, List, length, sym, ap, subst, arith, nat_eq, slice_index_or, filter}
 use Rattle.resource_table.specs.Jobs.{job_value}
 use Rattle.schedule_search.specs.declared.prefix.Prefix.{Prefix}
 use Rattle.schedule_search.specs.Prefixes.{AreMissing, IsAt}

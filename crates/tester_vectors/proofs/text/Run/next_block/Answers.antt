@@ -50,4 +50,5 @@ returns-clause-text g c = λ content marks stand.
     let size = ap (λ n. c.min-count.result * n) c.requires.run.line in
     ap (take (c.min-count.result * c.args.self.now.line)) (with_items_is c.args.self.now.block c.put_lines.new.text (omega (arith, same, c.args.self.now.block.ok.0)))
     ∙ ap (λ n. take n c.put_lines.new.text) size
-    ∙ block_is soc plan content marks (λ marks. marks_stand_in soc (bare_limits plan) plan marks c.requires.run.good) c.args.done c.min-count.result c.min-count.result c.put_lines.new.text (omega arith) (omega (arith, fits, size, same)) (c.put_lines.ensures.lines soc plan content marks c.requires.run.vectors stand)
+    ∙ block_is soc plan content marks (λ marks. marks_stand_in soc (bare_limits plan) plan marks c.requires.run.good) c.args.done c.min-count.result c.min-count.result c.put_lines.new.text (omega arith)
+    (omega (arith, fits, size, same)) (c.put_lines.ensures.lines soc plan content marks c.requires.run.vectors stand)

@@ -17,13 +17,14 @@ returns-in_err-put_all-clause-front g c = λ content marks stand.
     let plan = plan_value c.args.self.now.plan.now in
     let lines : take (c.next_block-count.result * c.next_block-count.new.self.line) c.deref.result.now ≡ lines_of soc plan content marks c.loop-done.done c.next_block-count.result =
     ap (take (c.next_block-count.result * c.next_block-count.new.self.line)) c.deref.ensures.value
-    ∙ same_lines (g.C.Contents.keys c.args.contents.now) (g.C.Contents.drive c.args.contents.now) (g.C.Contents.mark c.args.contents.now) (soc_value c.loop-done.self.soc.now) soc (plan_value c.loop-done.self.plan.now) plan content marks c.loop-done.done c.next_block-count.result _ (ap soc_value c.loop-done.invariant.same.soc) (ap plan_value c.loop-done.invariant.same.plan) stand c.next_block-count.ensures.text in
+    ∙ same_lines (ap soc_value c.loop-done.invariant.same.soc) (ap plan_value c.loop-done.invariant.same.plan) stand c.loop-done.done c.next_block-count.result _ c.next_block-count.ensures.text in
     let cycles : (plan_value c.loop-done.self.plan.now).cycles ≡ c.args.cycles = ap (λ (p : PlanValue). p.cycles) (ap plan_value c.loop-done.invariant.same.plan) ∙ sym c.requires.cycles in
     let is : c.from_residual.result ≡ Err c.in_err-put_all.field-0.0 = search rules in
     rw is
-    (front_after (g.K.Sink.written c.args.out.now) (g.K.Sink.written c.loop-done.out) (g.K.Sink.written c.put_all.new.out) (lines_of soc plan content marks 0 c.loop-done.done) (take (c.next_block-count.result * c.next_block-count.new.self.line) c.deref.result.now)
+    (front_after (g.K.Sink.written c.args.out.now) (g.K.Sink.written c.loop-done.out) (g.K.Sink.written c.put_all.new.out) (lines_of soc plan content marks 0 c.loop-done.done)
+    (take (c.next_block-count.result * c.next_block-count.new.self.line) c.deref.result.now)
     (lines_of soc plan content marks (c.loop-done.done + c.next_block-count.result) (c.args.cycles - (c.loop-done.done + c.next_block-count.result))) (lines_of soc plan content marks 0 c.args.cycles)
-    (lines_rest (cycle_line content marks (planned soc plan) (wires_of plan)) c.loop-done.done c.next_block-count.result c.args.cycles (take (c.next_block-count.result * c.next_block-count.new.self.line) c.deref.result.now) (omega (arith, c.next_block-count.ensures.within, cycles)) lines)
+    (lines_rest (cycle_line content marks (planned soc plan) (wires_of plan)) c.loop-done.done c.next_block-count.result c.args.cycles (omega (arith, c.next_block-count.ensures.within, cycles)) lines)
     (c.loop-done.invariant.written content marks stand) c.in_err-put_all.ensures.front)
 
 pub returns-in_err-put_all-clause-last_failed : goal.returns-in_err-put_all-clause-last_failed
@@ -57,10 +58,11 @@ loop-done-preserved g c =
           let plan = plan_value c.args.self.now.plan.now in
           let lines : take (c.next_block-count.result * c.next_block-count.new.self.line) c.deref.result.now ≡ lines_of soc plan content marks c.loop-done.done c.next_block-count.result =
           ap (take (c.next_block-count.result * c.next_block-count.new.self.line)) c.deref.ensures.value
-          ∙ same_lines (g.C.Contents.keys c.args.contents.now) (g.C.Contents.drive c.args.contents.now) (g.C.Contents.mark c.args.contents.now) (soc_value c.loop-done.self.soc.now) soc (plan_value c.loop-done.self.plan.now) plan content marks c.loop-done.done c.next_block-count.result _ (ap soc_value c.loop-done.invariant.same.soc) (ap plan_value c.loop-done.invariant.same.plan) stand c.next_block-count.ensures.text in
-          let more = lines_more_split (cycle_line content marks (planned soc plan) (wires_of plan)) c.loop-done.done c.next_block-count.result (take (c.next_block-count.result * c.next_block-count.new.self.line) c.deref.result.now) lines in
+          ∙ same_lines (ap soc_value c.loop-done.invariant.same.soc) (ap plan_value c.loop-done.invariant.same.plan) stand c.loop-done.done c.next_block-count.result _ c.next_block-count.ensures.text in
+          let more = lines_more_split (cycle_line content marks (planned soc plan) (wires_of plan)) c.loop-done.done c.next_block-count.result lines in
           subst (λ (text : List ℕ). Appended (g.K.Sink.written c.args.out.now) text (g.K.Sink.written c.put_all.new.out)) more
-          (Appended-then (g.K.Sink.written c.args.out.now) (g.K.Sink.written c.loop-done.out) (g.K.Sink.written c.put_all.new.out) (lines_of soc plan content marks 0 c.loop-done.done) (take (c.next_block-count.result * c.next_block-count.new.self.line) c.deref.result.now) (c.loop-done.invariant.written content marks stand) c.in_ok-put_all.ensures.all);
+          (Appended-then (g.K.Sink.written c.args.out.now) (g.K.Sink.written c.loop-done.out) (g.K.Sink.written c.put_all.new.out) (lines_of soc plan content marks 0 c.loop-done.done)
+          (take (c.next_block-count.result * c.next_block-count.new.self.line) c.deref.result.now) (c.loop-done.invariant.written content marks stand) c.in_ok-put_all.ensures.all);
       faults = omega (arith, c.loop-done.invariant.faults, c.put_all.ensures.faults_never_fall);
       puts = puts_then g.K.Sink.is_put c.args.out.now c.loop-done.out c.put_all.new.out false c.loop-done.invariant.puts c.in_ok-put_all.ensures.none_failed;
     }

@@ -1,5 +1,4 @@
-use Rattle.std.proofs.Common.{◌≡◌, ◌+◌, ◌∷◌, map, length, refl, ap, subst, ◌∙◌, arith}
-use Rattle.std.specs.List.{filter, sum_by}
+use Rattle.std.proofs.Common.{◌≡◌, ◌+◌, ◌∷◌, map, length, refl, ap, subst, ◌∙◌, arith, filter, sum_by}
 use Rattle.soc_model.specs.Chips.{module_value, soc_value}
 use Rattle.soc_model.specs.Modes.{has_tam}
 use Rattle.soc_model.proofs.Entries.{modules-at_start}

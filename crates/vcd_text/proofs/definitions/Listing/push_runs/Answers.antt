@@ -1,11 +1,10 @@
-use Rattle.std.proofs.Common.{◌≡◌, ◌+◌, length, get_or, true, false, refl, sym, ◌∙◌, arith}
-use Rattle.std.specs.List.{filter}
+use Rattle.std.proofs.Common.{◌≡◌, ◌+◌, length, get_or, true, false, refl, sym, ◌∙◌, arith, filter}
 use Rattle.soc_model.specs.declared.Test.{Test}
 use Rattle.soc_model.specs.Chips.{is_live}
 use Rattle.vcd_text.specs.Variables.{run_variables}
 use Rattle.vcd_text.proofs.Listed.{goes_on-begun, run_more, run_count, run_less, same_count, some_live}
-use Rattle.vcd_text.proofs.definitions.Listing.push_runs.Goals as goal
 use Rattle.vcd_text.proofs.definitions.Listing.push_runs.Goals.{then-live+in_ok-push_run, else-live}
+use Rattle.vcd_text.proofs.definitions.Listing.push_runs.Goals as goal
 
 abbrev no_test : Test
 no_test = record { number = 0; scan = false; tam = false; patterns = 0; power = 0 }

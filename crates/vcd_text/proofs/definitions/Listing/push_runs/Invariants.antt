@@ -1,5 +1,4 @@
-use Rattle.std.proofs.Common.{◌≡◌, ◌+◌, drop, length}
-use Rattle.std.specs.List.{filter}
+use Rattle.std.proofs.Common.{◌≡◌, ◌+◌, drop, length, filter}
 use Rattle.soc_model.specs.Chips.{is_live}
 use Rattle.vcd_text.specs.Listings.{GoesOn}
 use Rattle.vcd_text.specs.Variables.{run_variables}

@@ -1,5 +1,4 @@
-use Rattle.std.proofs.Common.{◌≡◌, ◌∙◌, ◌*◌, ℕ, length, sym, ap}
-use Rattle.std.specs.Prelude.{vec_len}
+use Rattle.std.proofs.Common.{◌≡◌, ◌∙◌, ◌*◌, ℕ, length, sym, ap, vec_len}
 use Rattle.std.specs.Global.{Vec}
 use Rattle.width_tree.proofs.check.TreeRoom.sized.Goals as goal
 
