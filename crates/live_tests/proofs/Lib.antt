@@ -14,3 +14,4 @@ pub mod BusWidths
 pub mod FoundWrappers
 pub mod FirstWires
 pub mod CountedBack
+pub mod FoundPlaced

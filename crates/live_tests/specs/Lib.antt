@@ -9,3 +9,4 @@ pub mod Reads
 pub mod Parents
 pub mod Resolved
 pub mod Problems
+pub mod PlacedPlans

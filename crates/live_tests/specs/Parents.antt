@@ -10,7 +10,7 @@ pub record HasParentAt (soc : SocValue) (parents : List ℕ) (p : ℕ) : Type 0 
   pub only : (r : ℕ) → IsParent soc.modules r p → r ≡ q
   pub within : q ≤ length soc.modules
 
--- the same for each module
+-- the places of the parents of all modules
 abbrev pub AreParents : SocValue → List ℕ → Type 0
 AreParents soc parents = (p : ℕ) → p < length soc.modules → HasParentAt soc parents p
 

@@ -19,7 +19,7 @@ pub record IsModeWrapper (plan : PlanValue) (m : ModuleValue) (scan : Bool) (w :
   pub so : w.so ≡ so_of (chain_cells m scan wrapper.chains)
   pub short : 1 + w.si + w.so ≤ module_size m
 
--- the same; none where the plan has no such wrapper
+-- the first wrapper of a module in a mode; none where the plan has none
 abbrev pub MayBeWrapper : PlanValue → ModuleValue → Bool → Option ModeWrapper → Type 0
 MayBeWrapper plan m scan (Some w) = IsModeWrapper plan m scan w
 MayBeWrapper plan m scan None = position (wraps m.number scan) plan.wrappers ≡ None

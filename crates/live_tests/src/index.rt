@@ -142,7 +142,7 @@ pub fn wrappers_by_mode(
     ensures { IfOk result (λ named. (m : ℕ) (scan : Bool) →
         lookup (is_pair m scan) named.entries ≡ position (wraps m scan) (map wrapper_value wrappers.now)) }
 {
-    let mut named = IndexMap::new(alloc);
+    let mut named = IndexMap::with_capacity(alloc, wrappers.len())?;
     for place in (0..wrappers.len()).rev() {
         let wrapper = &wrappers[place];
         named.insert((wrapper.module, wrapper.scan), place)?;
@@ -157,7 +157,7 @@ fn starts_by_name(
 ) -> Result<IndexMap<TestId, u64>, NoMemory>
     ensures { IfOk result (λ named. (id : TestId) → lookup (same_test id) named.entries ≡ lookup (same_test id) starts.now) }
 {
-    let mut named = IndexMap::new(alloc);
+    let mut named = IndexMap::with_capacity(alloc, starts.len())?;
     for place in (0..starts.len()).rev() {
         let (id, start) = starts[place];
         named.insert(id, start)?;

@@ -16,18 +16,20 @@ mod index;
 mod neighbours;
 mod parent_places;
 mod placed;
+mod placed_plan;
 mod problem;
 mod profiles;
 mod resolved;
 mod wires;
 mod wrapped;
 
-pub use index::{PlanIndex, bus_place, buses_by_module, wrappers_by_mode};
+pub use index::{bus_place, buses_by_module, wrappers_by_mode};
 use indexmap::IndexMap;
 pub use neighbours::{Neighbours, all_after, all_before, count_before};
 use outside::{NoMemory, push};
 pub use parent_places::{fill_parents, parents};
-pub use placed::{PlacedTest, PlacedTests, PlannedChip, bus_over, placed_test, tests_placed};
+pub use placed::{Placed, PlacedTest, bus_over, placed_test};
+pub use placed_plan::PlacedPlan;
 pub use problem::Problem;
 pub use profiles::{profile_place, profile_places};
 pub use resolved::Resolved;
@@ -125,7 +127,7 @@ fn live_names(alloc: Global, soc: &Soc) -> Result<Vec<TestId>, NoMemory>
 fn places_by_name(alloc: Global, names: &[TestId]) -> Result<IndexMap<TestId, usize>, NoMemory>
     ensures { IfOk result (λ places. (id : TestId) → lookup (same_test id) places.entries ≡ position (same_test id) names.now) }
 {
-    let mut places = IndexMap::new(alloc);
+    let mut places = IndexMap::with_capacity(alloc, names.len())?;
     for place in (0..names.len()).rev() {
         places.insert(names[place], place)?;
     }

@@ -1,20 +1,19 @@
-//! The live tests of a chip as a plan places them.
-ghost use Rattle.std.specs.Prelude.{◌≡◌, ◌+◌, ◌++◌, ◌^◌, ◌<◌, ℕ, Some, find, length, map, slice_get, IfOk, OnOk, IsTrue};
+//! What a good plan says of the live tests and the modules of its chip, by place.
+ghost use Rattle.std.specs.Prelude.{◌≡◌, ◌+◌, ◌++◌, ◌^◌, ◌<◌, ◌∷◌, [], ℕ, Some, length, map, slice_get, IfOk, OnOk, IsTrue};
 ghost use Rattle.soc_model.specs.Chips.{is_live, module_value, soc_value};
 ghost use Rattle.soc_model.specs.SoundChips.{IsSoundChip};
 ghost use Rattle.plan_model.specs.Plans.{planned_test};
-ghost use Rattle.plan_model.specs.Rules.{IsGoodAlone, live_ids};
+ghost use Rattle.plan_model.specs.Rules.{IsGoodAlone};
 ghost use Rattle.plan_model.specs.Views.{plan_value};
-ghost use Rattle.live_tests.specs.declared.placed.PlacedTest.{PlacedTest};
 ghost use Rattle.live_tests.specs.Wrapped.{AreModeWrappers};
-ghost use Rattle.live_tests.specs.Placed.{bus_over as the_bus_over, is_called, placed_at, placed_in, placed_of, placed_tests};
+ghost use Rattle.live_tests.specs.Placed.{AreWalked, IsPlaced, bus_over as the_bus_over, placed_at, placed_in, placed_of, placed_tests};
 
-use crate::{LiveTests, ModeWrappers, PlanIndex};
+use crate::ModeWrappers;
+use crate::index::PlanIndex;
 use outside::{NoMemory, push};
 use plan_model::Plan;
 use soc_model::{Module, Soc, Test, TestId, live, module_at};
 use std::alloc::Global;
-use std::marker::Model;
 
 /// A live test as a plan places it. A test over the wires uses all wires of its bus, as [`crate::first_wires`] has them.
 #[derive(Clone, Copy, PartialEq, Eq, Debug)]
@@ -33,70 +32,28 @@ pub struct PlacedTest {
     pub power: u64,
 }
 
-/// The live tests of a chip as a plan places them, in the order of the chip, each found by its name.
+/// What a plan says of a chip, by place. A check of the plan finds it out, and what an accepted plan is used for goes on from it.
 #[derive(Drop)]
-pub struct PlacedTests<'a> {
-    names: &'a LiveTests,
-    tests: Vec<PlacedTest>,
+pub struct Placed {
+    /// The live tests as the plan places them, in the order of the chip.
+    pub tests: Vec<PlacedTest>,
+    /// For each module its wrappers, each walked once.
+    pub wrappers: Vec<ModeWrappers>,
 }
 
-impl<'a> Model for PlacedTests<'a> {
-    ghost use Rattle.std.specs.Prelude.{◌≡◌, List, map};
-    ghost use Rattle.live_tests.specs.declared.placed.PlacedTest.{PlacedTest};
-
-    ghost Value = { List PlacedTest };
-
-    ghost view = { λ t. t.tests.items };
-
-    ghost invariant = { λ t. t.names.now ≡ map (λ (p : PlacedTest). p.id) t.tests.items };
-}
-
-impl<'a> PlacedTests<'a> {
-    /// The live tests of a chip as a good plan places them, where they are at hand by name. `NoMemory` where there is none.
-    pub fn with_names(
-        alloc: Global,
-        soc: &Soc,
-        plan: &Plan,
-        names: &'a LiveTests,
-    ) -> Result<PlacedTests<'a>, NoMemory>
+impl Placed {
+    /// What a good plan says of its chip. `NoMemory` where there is none.
+    pub fn new(alloc: Global, soc: &Soc, plan: &Plan) -> Result<Placed, NoMemory>
         requires sound { IsSoundChip (soc_value soc.now) }
         requires good { IsGoodAlone (soc_value soc.now) (plan_value plan.now) }
-        requires names { names.now ≡ live_ids (soc_value soc.now) }
-        ensures { IfOk result (λ tests. tests ≡ placed_tests (soc_value soc.now) (plan_value plan.now)) }
+        ensures { IfOk result (λ placed. IsPlaced (soc_value soc.now) (plan_value plan.now) placed) }
     {
-        let tests = tests_placed(alloc, soc, plan)?;
-        Ok(PlacedTests { names, tests })
+        let index = PlanIndex::new(alloc, plan)?;
+        let placed = placed_by(alloc, soc, &index);
+        // dropped by a call: the end of the scope would drop each of its parts, and be proved for each
+        drop(index);
+        placed
     }
-
-    /// The live test of that name. None comes exactly where the chip has none.
-    pub fn find(&self, id: TestId) -> Option<PlacedTest>
-        ensures { result ≡ find (is_called id) self.now }
-    {
-        let place = self.names.place(id)?;
-        Some(self.tests[place])
-    }
-
-    /// The tests, in the order of the chip.
-    pub fn tests(&self) -> &[PlacedTest]
-        ensures { result.now ≡ self.now }
-    {
-        &self.tests
-    }
-}
-
-/// The live tests of a chip as a good plan places them, without their names. The plan's index goes when all are placed. `NoMemory`
-/// where there is none.
-pub fn tests_placed(alloc: Global, soc: &Soc, plan: &Plan) -> Result<Vec<PlacedTest>, NoMemory>
-    requires sound { IsSoundChip (soc_value soc.now) }
-    requires good { IsGoodAlone (soc_value soc.now) (plan_value plan.now) }
-    ensures { IfOk result (λ tests. tests.items ≡ placed_tests (soc_value soc.now) (plan_value plan.now)) }
-{
-    let index = PlanIndex::new(alloc, plan)?;
-    let planned = PlannedChip { soc, index: &index };
-    let tests = planned.tests(alloc);
-    // dropped by a call: the end of the scope would drop each of its parts, and be proved for each
-    drop(index);
-    tests
 }
 
 /// The bus of a test over the wires, given that of its module; a self test has none.
@@ -137,16 +94,14 @@ fn plan_cycles(plan: &Plan) -> u64
 
 /// A chip and a good plan for it, whose tests are placed one by one.
 #[derive(Clone, Copy, Drop)]
-pub struct PlannedChip<'a> {
-    /// The chip.
-    pub soc: &'a Soc,
-    /// The plan.
-    pub index: &'a PlanIndex<'a>,
+struct PlannedChip<'a> {
+    soc: &'a Soc,
+    index: &'a PlanIndex<'a>,
 }
 
 impl<'a> PlannedChip<'a> {
     /// A live test of the module at a place, which has these wrappers.
-    pub fn test(
+    fn test(
         &self,
         place: usize,
         module: &Module,
@@ -179,34 +134,67 @@ impl<'a> PlannedChip<'a> {
         tests: &mut Vec<PlacedTest>,
         place: usize,
         module: &Module,
+        wrappers: &ModeWrappers,
     ) -> Result<(), NoMemory>
         requires sound { IsSoundChip (soc_value self.now.soc.now) }
         requires good { IsGoodAlone (soc_value self.now.soc.now) self.now.index.now }
         requires module_there { slice_get (soc_value self.now.soc.now).modules place ≡ Some (module_value «module».now) }
+        requires wrappers { AreModeWrappers self.now.index.now (module_value «module».now) wrappers.now }
         ensures { OnOk result (tests.new.items ≡ tests.old.items
             ++ placed_in self.now.index.now place (module_value «module».now) «module».now.tests.items) }
     {
-        let wrappers = ModeWrappers::new(self.soc, self.index, place, module);
         for test in &module.tests {
             if live(test) {
-                push(tests, self.test(place, module, &wrappers, test))?;
+                push(tests, self.test(place, module, wrappers, test))?;
             }
         }
         Ok(())
     }
 
-    /// The live tests as the plan places them, in the order of the chip.
-    fn tests(&self, alloc: Global) -> Result<Vec<PlacedTest>, NoMemory>
+    /// The wrappers of all modules.
+    fn wrappers(&self, alloc: Global) -> Result<Vec<ModeWrappers>, NoMemory>
         requires sound { IsSoundChip (soc_value self.now.soc.now) }
         requires good { IsGoodAlone (soc_value self.now.soc.now) self.now.index.now }
+        ensures { IfOk result (λ wrappers. AreWalked (soc_value self.now.soc.now) self.now.index.now wrappers.items) }
+    {
+        let count = module_count(self.soc);
+        let mut wrappers = Vec::with_capacity(alloc, count)?;
+        for place in 0..count {
+            let module = module_at(self.soc, place);
+            push(
+                &mut wrappers,
+                ModeWrappers::new(self.soc, self.index, place, module),
+            )?;
+        }
+        Ok(wrappers)
+    }
+
+    /// The live tests as the plan places them, in the order of the chip, where these are the wrappers of all modules.
+    fn tests(&self, alloc: Global, wrappers: &[ModeWrappers]) -> Result<Vec<PlacedTest>, NoMemory>
+        requires sound { IsSoundChip (soc_value self.now.soc.now) }
+        requires good { IsGoodAlone (soc_value self.now.soc.now) self.now.index.now }
+        requires walked { AreWalked (soc_value self.now.soc.now) self.now.index.now wrappers.now }
         ensures { IfOk result (λ tests. tests.items ≡ placed_tests (soc_value self.now.soc.now) self.now.index.now) }
     {
         let mut tests = Vec::new(alloc);
         for place in 0..module_count(self.soc) {
-            self.push_module(&mut tests, place, module_at(self.soc, place))?;
+            let module = module_at(self.soc, place);
+            self.push_module(&mut tests, place, module, &wrappers[place])?;
         }
         Ok(tests)
     }
+}
+
+/// What a good plan says of its chip, found by the plan's index.
+fn placed_by(alloc: Global, soc: &Soc, index: &PlanIndex<'_>) -> Result<Placed, NoMemory>
+    requires sound { IsSoundChip (soc_value soc.now) }
+    requires good { IsGoodAlone (soc_value soc.now) index.now }
+    ensures { IfOk result (λ placed. IsPlaced (soc_value soc.now) index.now placed) }
+{
+    let chip = PlannedChip { soc, index };
+    let wrappers = chip.wrappers(alloc)?;
+    let tests = chip.tests(alloc, &wrappers)?;
+    Ok(Placed { tests, wrappers })
 }
 
 /// How many modules a chip has.

@@ -17,7 +17,7 @@ pub fn profile_places(
 ) -> Result<IndexMap<TestId, usize>, NoMemory>
     ensures { IfOk result (λ places. AreProfilePlaces places profiles.now) }
 {
-    let mut places = IndexMap::new(alloc);
+    let mut places = IndexMap::with_capacity(alloc, profiles.len())?;
     for place in (0..profiles.len()).rev() {
         places.insert(profiles[place].test, place)?;
     }

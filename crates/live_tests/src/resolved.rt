@@ -2,6 +2,9 @@
 ghost use Rattle.std.specs.Prelude.{◌≡◌, IfOk};
 ghost use Rattle.soc_model.specs.Chips.{soc_value};
 ghost use Rattle.plan_model.specs.Rules.{live_ids};
+ghost use Rattle.plan_model.specs.Views.{limits_value};
+ghost use Rattle.live_tests.specs.Names.{precedences as precedences_of};
+ghost use Rattle.live_tests.specs.Profiles.{AreProfilePlaces};
 ghost use Rattle.live_tests.specs.Resolved.{IsResolved};
 
 use crate::{LiveTests, parents, profile_places};
@@ -30,22 +33,26 @@ impl Resolved {
         ensures { IfOk result (λ resolved. IsResolved (soc_value soc.now) limits.now resolved) }
     {
         let tests = LiveTests::new(alloc, soc)?;
-        Resolved::with_tests(alloc, soc, limits, tests)
+        let precedences = tests.precedences(alloc, &limits.before)?;
+        let profiles = profile_places(alloc, &limits.profiles)?;
+        Resolved::with_places(alloc, soc, limits, tests, precedences, profiles)
     }
 
-    /// A chip and its limits, resolved, where the live tests of the chip are at hand by name. `NoMemory` where there is none.
-    pub fn with_tests(
+    /// A chip and its limits, resolved, where what the limits name is at hand by place. `NoMemory` where there is none.
+    pub fn with_places(
         alloc: Global,
         soc: &Soc,
         limits: &Limits,
         tests: LiveTests,
+        precedences: Vec<(usize, usize)>,
+        profiles: IndexMap<TestId, usize>,
     ) -> Result<Resolved, NoMemory>
-        requires { tests ≡ live_ids (soc_value soc.now) }
+        requires tests { tests ≡ live_ids (soc_value soc.now) }
+        requires precedences { precedences.items ≡ precedences_of (soc_value soc.now) (limits_value limits.now) }
+        requires profiles { AreProfilePlaces profiles limits.now.profiles.items }
         ensures { IfOk result (λ resolved. IsResolved (soc_value soc.now) limits.now resolved) }
     {
         let parents = parents(alloc, soc)?;
-        let precedences = tests.precedences(alloc, &limits.before)?;
-        let profiles = profile_places(alloc, &limits.profiles)?;
         Ok(Resolved {
             tests,
             parents,

@@ -9,7 +9,7 @@ ghost use Rattle.plan_model.specs.Rules.{Each, HasProperCells, IsGoodAlone};
 ghost use Rattle.plan_model.specs.Views.{chain_value, wrapper_value};
 ghost use Rattle.live_tests.specs.Wrapped.{AreModeWrappers, IsWrappedTest, MayBeWrapper};
 
-use crate::PlanIndex;
+use crate::index::PlanIndex;
 use plan_model::{Wrapper, closed_time, lengths};
 use soc_model::{Module, Soc, Test};
 
@@ -94,7 +94,12 @@ impl ModeWrappers {
     }
 
     /// The wrappers of the module at a place of the chip in a good plan. Each is walked once.
-    pub fn new(soc: &Soc, index: &PlanIndex<'_>, place: usize, module: &Module) -> ModeWrappers
+    pub(crate) fn new(
+        soc: &Soc,
+        index: &PlanIndex<'_>,
+        place: usize,
+        module: &Module,
+    ) -> ModeWrappers
         requires sound { IsSoundChip (soc_value soc.now) }
         requires good { IsGoodAlone (soc_value soc.now) index.now }
         requires there { slice_get (soc_value soc.now).modules place ≡ Some (module_value «module».now) }
