@@ -1,5 +1,5 @@
 -- From how a call ends to what it promises.
-use Rattle.std.proofs.Common.{◌≡◌, ℕ, ◌≤◌, inl, inr, Bool, List, [], Option, None, Some, IfSome, refl, sym, subst}
+use Rattle.std.proofs.Common.{◌≡◌, ℕ, ◌≤◌, inl, inr, Bool, List, Option, None, Some, IfSome, refl, sym, subst}
 use Rattle.std.specs.FinMap.{empty, get}
 use Rattle.outside.specs.Held.{Files, Rose}
 use Rattle.outside.specs.declared.sink.Put.{Put}
@@ -9,13 +9,13 @@ use Rattle.soc_reader.specs.ChipForm.{SaysChip}
 use Rattle.commands.specs.declared.FileKind.{FileKind}
 use Rattle.commands.specs.declared.FileKind.TheVariants.{Soc, Limits, Plan}
 use Rattle.commands.specs.declared.Status.{Status}
-use Rattle.commands.specs.declared.Status.TheVariants.{Done, Refused, NoMemory}
+use Rattle.commands.specs.declared.Status.TheVariants.{Done, Refused}
 use Rattle.commands.specs.AcceptedPlans.{AcceptedValue}
 use Rattle.commands.specs.Answers.{Answers}
 use Rattle.commands.specs.Decides.{AreRead}
 use Rattle.commands.specs.Endings.{LongText, EndingValue, Continues, Closes, WritesEnding, LoadsEnding, PutsEnding}
 use Rattle.commands.specs.Ends.{IsCommand, MayAnswer, MayUnless, Ends, OneLine, EndsByWords, SaysBadWords, MakesPuts}
-use Rattle.commands.specs.Loads.{LoadsOf, IsLoaded, AllLoaded, LoadsDecide, LoadsUnless, EndsByLoads}
+use Rattle.commands.specs.Loads.{LoadsOf, IsLoaded, AllLoaded, LoadsUnless, EndsByLoads}
 use Rattle.commands.specs.Procedures.{Procedure, Read, Unless, done_with, with_accepted, with_all, with_limits}
 use Rattle.commands.specs.Promises.{IsTopCall}
 use Rattle.commands.specs.Readings.{IsRead, RefusesChip, SaysLimits, RefusesLimits, SaysAccepted, RefusesPlan}

@@ -65,7 +65,7 @@ done answer (Some files) before after (Answered status text) d = (rw d.0 tt, d)
 done answer held before after (CannotRead missed) d = absurd d
 done answer held before after OutOfMemory d = tt
 
--- the same of a text that a call made
+-- the answer is a text that a call made
 pub done_of : (answer : List ℕ) (made : Result (Vec ℕ) MemoryFault) (held : Option Files) (before after : ℕ) (verdict : Verdict) → IfOk made (λ text. text.items ≡ answer) → GivesText Done made verdict → Follows (done_with answer) held before after verdict
 done_of answer (Ok text) held before after verdict is d = done answer held before after verdict (rw is at d)
 done_of answer (Err fault) held before after verdict is d = rw d tt

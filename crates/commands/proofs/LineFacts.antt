@@ -34,7 +34,7 @@ number_plain (Ok u) old new n small e = λ plain. rw e (rw (no_feed-append old (
     fits = lit≤ tt
 number_plain (Err e) old new n small h = tt
 
--- the same of two numbers with a dot between them
+-- a line of two numbers with a dot between them has no line feed
 pub dotted_plain : {E : Type 0} (r : Result (Unit {0}) E) (old new : List ℕ) (a b : ℕ) → a < 2 ^ 64 → b < 2 ^ 64 → OnOk r (new ≡ old ++ dotted_numbers a b) → OnOk r (IsTrue (no_feed old) → IsTrue (no_feed new))
 dotted_plain (Ok u) old new a b small few e = λ plain.
     rw e (rw (no_feed-append old (dotted_numbers a b)) (and_from (no_feed old) (no_feed (dotted_numbers a b)) plain dotted))

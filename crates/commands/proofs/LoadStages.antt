@@ -10,13 +10,13 @@ use Rattle.soc_model.specs.Chips.{SocValue}
 use Rattle.plan_model.specs.Plans.{LimitsValue, PlanValue}
 use Rattle.commands.specs.declared.FileKind.{FileKind}
 use Rattle.commands.specs.declared.Status.{Status}
-use Rattle.commands.specs.declared.Status.TheVariants.{Done, Refused, BadWords, ReadFault, TooLong, NoMemory}
+use Rattle.commands.specs.declared.Status.TheVariants.{Done, Refused, ReadFault, NoMemory}
 use Rattle.commands.specs.declared.Verdict.{Verdict}
 use Rattle.commands.specs.declared.Verdict.TheVariants.{Answered, CannotRead, NoMemory as OutOfMemory}
-use Rattle.commands.specs.Texts.{bad_words_line, unread_line, too_long_line}
+use Rattle.commands.specs.Texts.{unread_line}
 use Rattle.commands.specs.Readings.{most_of}
 use Rattle.commands.specs.Procedures.{Procedure, Read, Unless, Answer, NoCommand, done_with, done_with_any, with_both, with_all}
-use Rattle.commands.specs.Decides.{Follows, Gives, GivesAny, GivesText, Refuses, AnswersBytes}
+use Rattle.commands.specs.Decides.{Follows, GivesAny, GivesText, Refuses, AnswersBytes}
 use Rattle.commands.specs.Loads.{LoadsOf, IsLoaded, DecidesAlone, StopsAt, LoadsDecide, LoadsUnless, OfVerdict, LoadsGive, AreLoaded, AllLoaded, StopsAtBoth, StopsAtAll}
 use Rattle.commands.proofs.FileStages.{done_of, unless_any}
 

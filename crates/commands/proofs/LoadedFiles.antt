@@ -3,8 +3,8 @@ use Rattle.std.proofs.Common.{◌≡◌, ℕ, inl, inr, List, Result, Ok, Err, r
 use Rattle.outside.specs.declared.shelf.Loaded.TheVariants as loaded
 use Rattle.soc_model.specs.declared.Soc.{Soc as SocModel}
 use Rattle.soc_model.specs.Chips.{SocValue}
-use Rattle.commands.specs.declared.loading.Bounds.{Bounds}
-use Rattle.plan_model.specs.declared.Plan.{Plan as PlanModel}
+use Rattle.limits_text.specs.declared.read.Bounds.{Bounds}
+use Rattle.commands.specs.declared.loading.PlanPlaces.{PlanPlaces}
 use Rattle.plan_model.specs.Plans.{LimitsValue, PlanValue}
 use Rattle.soc_reader.specs.declared.SocFault.{SocFault}
 use Rattle.soc_reader.specs.declared.SocFault.TheVariants as soc_fault
@@ -36,7 +36,7 @@ pub limits_stop : {S : Type 0} (is_load : LoadsOf S) (chip : SocValue) (name : L
     LoadsFile is_load Limits name first (Err verdict) last → result ≡ Err verdict → LoadsBounds is_load chip name first result last
 limits_stop is_load chip name first last verdict result d is = rw is (any_refusal is_load Limits (RefusesLimits chip) name first last verdict d)
 
-pub plan_stops : {S : Type 0} (is_load : LoadsOf S) (chip : SocValue) (bounds : LimitsValue) (name : List ℕ) (first last : S) (verdict : Verdict) (result : Result PlanModel Verdict) →
+pub plan_stops : {S : Type 0} (is_load : LoadsOf S) (chip : SocValue) (bounds : LimitsValue) (name : List ℕ) (first last : S) (verdict : Verdict) (result : Result PlanPlaces Verdict) →
     LoadsFile is_load Plan name first (Err verdict) last → result ≡ Err verdict → LoadsPlan is_load chip bounds name first result last
 plan_stops is_load chip bounds name first last verdict result d is = rw is (any_refusal is_load Plan (RefusesPlan chip bounds) name first last verdict d)
 
@@ -77,9 +77,9 @@ plan_load_refused is_load chip bounds name bytes first last fault verdict load w
     stops is_load Plan (RefusesPlan chip bounds) name first loaded.Whole bytes last verdict load (plan_alone chip bounds bytes fault verdict why d)
 
 -- a plan that is checked: it is accepted, or its fault is the refusal
-pub plan_load_checked : {S : Type 0} (is_load : LoadsOf S) (chip : SocValue) (bounds : LimitsValue) (name bytes : List ℕ) (first last : S) (value : PlanValue) (result : Result PlanModel Verdict) →
+pub plan_load_checked : {S : Type 0} (is_load : LoadsOf S) (chip : SocValue) (bounds : LimitsValue) (name bytes : List ℕ) (first last : S) (value : PlanValue) (result : Result PlanPlaces Verdict) →
     is_load first name (most_of Plan) loaded.Whole bytes last → SaysPlan bytes value → AnswersCheck chip bounds value result → LoadsPlan is_load chip bounds name first result last
-plan_load_checked is_load chip bounds name bytes first last value (Ok plan) load says d =
+plan_load_checked is_load chip bounds name bytes first last value (Ok found) load says d =
     record { bytes = bytes; load = load; says = subst (SaysAccepted chip bounds bytes) (sym d.0) (says, d.1) }
 plan_load_checked is_load chip bounds name bytes first last value (Err verdict) load says (inl d) =
     stops is_load Plan (RefusesPlan chip bounds) name first loaded.Whole bytes last verdict load

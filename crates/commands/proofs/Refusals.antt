@@ -5,11 +5,12 @@ use Rattle.outside.specs.declared.NoMemory.{NoMemory as MemoryFault}
 use Rattle.outside.specs.Held.{Files, WhereTold}
 use Rattle.soc_model.specs.declared.Soc.{Soc as SocModel}
 use Rattle.soc_model.specs.Chips.{SocValue}
-use Rattle.commands.specs.declared.loading.Bounds.{Bounds}
-use Rattle.plan_model.specs.declared.Plan.{Plan as PlanModel}
+use Rattle.limits_text.specs.declared.read.Bounds.{Bounds}
+use Rattle.commands.specs.declared.loading.PlanPlaces.{PlanPlaces}
 use Rattle.plan_model.specs.Plans.{LimitsValue, PlanValue}
 use Rattle.plan_model.specs.Faults.{FaultValue, IsFault, IsFaultless}
 use Rattle.plan_model.specs.Views.{plan_value}
+use Rattle.live_tests.specs.Placed.{IsPlaced}
 use Rattle.soc_reader.specs.declared.SocFault.{SocFault}
 use Rattle.soc_reader.specs.ChipForm.{SaysChip}
 use Rattle.soc_reader.specs.Refusals.{Refuses}
@@ -38,7 +39,7 @@ chip_unread name held before after verdict result none is = rw is (without_bytes
 pub limits_unread : (chip : SocValue) (name : List ℕ) (held : Option Files) (before after : ℕ) (verdict : Verdict) (result : Result Bounds Verdict) → LoadsBytes Limits name held before after (Err verdict) → result ≡ Err verdict → LoadsLimits chip name held before after result
 limits_unread chip name held before after verdict result none is = rw is (without_bytes Limits (SaysLimits chip) (RefusesLimits chip) name held before after verdict none)
 
-pub plan_unread : (chip : SocValue) (bounds : LimitsValue) (name : List ℕ) (held : Option Files) (before after : ℕ) (verdict : Verdict) (result : Result PlanModel Verdict) → LoadsBytes Plan name held before after (Err verdict) → result ≡ Err verdict → LoadsAccepted chip bounds name held before after result
+pub plan_unread : (chip : SocValue) (bounds : LimitsValue) (name : List ℕ) (held : Option Files) (before after : ℕ) (verdict : Verdict) (result : Result PlanPlaces Verdict) → LoadsBytes Plan name held before after (Err verdict) → result ≡ Err verdict → LoadsAccepted chip bounds name held before after result
 plan_unread chip bounds name held before after verdict result none is = rw is (without_bytes Plan (SaysAccepted chip bounds) (RefusesPlan chip bounds) name held before after verdict none)
 
 -- ---- texts that are refused
@@ -70,10 +71,10 @@ plan_refused chip bounds name bytes held before after (plan_fault.Text line) ver
 plan_refused chip bounds name bytes held before after plan_fault.NoMemory verdict told within why d = rw d tt
 
 -- a plan that is checked: it is accepted, or its fault is the refusal
-pub plan_checked : (chip : SocValue) (bounds : LimitsValue) (name bytes : List ℕ) (held : Option Files) (before after : ℕ) (value : PlanValue) (result : Result PlanModel Verdict) →
+pub plan_checked : (chip : SocValue) (bounds : LimitsValue) (name bytes : List ℕ) (held : Option Files) (before after : ℕ) (value : PlanValue) (result : Result PlanPlaces Verdict) →
     WhereTold held name (λ o. o ≡ Some bytes) → length bytes ≤ most_of Plan → SaysPlan bytes value → AnswersCheck chip bounds value result → LoadsAccepted chip bounds name held before after result
-plan_checked chip bounds name bytes held before after value (Ok plan) told within says d =
-    read_from Plan (SaysAccepted chip bounds) held name bytes (plan_value plan) told within (subst (SaysAccepted chip bounds bytes) (sym d.0) (says, d.1))
+plan_checked chip bounds name bytes held before after value (Ok found) told within says d =
+    read_from Plan (SaysAccepted chip bounds) held name bytes (plan_value found.plan) told within (subst (SaysAccepted chip bounds bytes) (sym d.0) (says, d.1))
 plan_checked chip bounds name bytes held before after value (Err verdict) told within says (inl d) =
     refused Plan (SaysAccepted chip bounds) (RefusesPlan chip bounds) name (λ value. nothing) held before after bytes (fault_line d.0) verdict told within (inr (value, says, (d.0, d.1, refl))) d.2
 plan_checked chip bounds name bytes held before after value (Err verdict) told within says (inr d) = rw d tt
@@ -86,7 +87,12 @@ faulty chip bounds value fault (Ok text) (CannotRead missed) is says line d = ab
 faulty chip bounds value fault (Ok text) OutOfMemory is says line d = inr refl
 faulty chip bounds value fault (Err none) verdict is says line d = inr d
 
--- a plan that is handed on has no fault
-pub handed_on : (chip : SocValue) (bounds : LimitsValue) (value : PlanValue) (result : Result PlanModel Verdict) → AnswersCheck chip bounds value result → IfOk result (λ plan. IsFaultless chip bounds (plan_value plan))
-handed_on chip bounds value (Ok plan) d = subst (IsFaultless chip bounds) (sym d.0) d.1
-handed_on chip bounds value (Err verdict) d = tt
+-- a plan that is handed on has no fault, and is placed
+module _ (chip : SocValue) (bounds : LimitsValue) (value : PlanValue) where
+  pub handed_on : (result : Result PlanPlaces Verdict) → AnswersCheck chip bounds value result → IfOk result (λ (found : PlanPlaces). IsFaultless chip bounds (plan_value found.plan))
+  handed_on (Ok found) d = subst (IsFaultless chip bounds) (sym d.0) d.1
+  handed_on (Err verdict) d = tt
+
+  pub placed_on : (result : Result PlanPlaces Verdict) → AnswersCheck chip bounds value result → IfOk result (λ (found : PlanPlaces). IsPlaced chip (plan_value found.plan) found.placed)
+  placed_on (Ok found) d = subst (λ (p : PlanValue). IsPlaced chip p found.placed) (sym d.0) d.2
+  placed_on (Err verdict) d = tt

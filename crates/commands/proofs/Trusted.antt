@@ -80,7 +80,7 @@ accepted_good laws files soc limits plan Tells next tells text old new answer pu
       written = put;
     }
 
--- the same, where the text needs no more than its answer
+-- what is accepted, where the text needs no more than its answer
 pub accepted : TrustLaws → (files : Files) (soc limits plan : List ℕ) (Tells : SocValue → PlanValue → List ℕ → Type 0) (next : SocValue → LimitsValue → PlanValue → Procedure) →
     ((chip : SocValue) (bounds : LimitsValue) (value : PlanValue) (text : List ℕ) → Answers (next chip bounds value) files Done text → Tells chip value text) →
     (text : List ℕ) (old new : Option (List ℕ)) → Answers (with_all soc limits plan next) files Done text → Appended old text new → IsTrustworthy (IsChipIn files soc) (AreLimitsIn files limits) (IsPlanIn files plan) Tells old new

@@ -2,9 +2,8 @@
 use Rattle.std.proofs.Common.{◌≡◌, ◌≢◌, ℕ, inl, inr, List, Option, None, Some, IfSome, refl, sym, subst, ◌∙◌, IsTrue}
 use Rattle.std.specs.FinMap.{get}
 use Rattle.outside.specs.Held.{Files}
-use Rattle.soc_model.specs.Chips.{SocValue, soc_value}
+use Rattle.soc_model.specs.Chips.{SocValue}
 use Rattle.plan_model.specs.Plans.{LimitsValue, PlanValue}
-use Rattle.plan_model.specs.Views.{limits_value, plan_value}
 use Rattle.soc_reader.specs.ChipForm.{SaysChip}
 use Rattle.commands.specs.declared.FileKind.TheVariants.{Soc, Limits, Plan}
 use Rattle.commands.specs.declared.Status.{Status}

@@ -6,8 +6,8 @@ use Rattle.outside.specs.declared.NoMemory.{NoMemory as MemoryFault}
 use Rattle.outside.specs.Held.{Files, Rose, IsMissing, WhereTold}
 use Rattle.soc_model.specs.declared.Soc.{Soc as SocModel}
 use Rattle.soc_model.specs.Chips.{SocValue, soc_value}
-use Rattle.plan_model.specs.declared.Plan.{Plan as PlanModel}
 use Rattle.plan_model.specs.Plans.{LimitsValue, PlanValue}
+use Rattle.live_tests.specs.Placed.{IsPlaced}
 use Rattle.live_tests.specs.Problems.{ProblemValue}
 use Rattle.plan_model.specs.Faults.{FaultValue, IsFault, IsFaultless}
 use Rattle.plan_model.specs.Views.{limits_value, plan_value}
@@ -16,6 +16,7 @@ use Rattle.soc_reader.specs.declared.SocFault.TheVariants as soc_fault
 use Rattle.soc_reader.specs.ChipForm.{SaysChip}
 use Rattle.limits_text.specs.declared.LimFault.{LimFault}
 use Rattle.limits_text.specs.declared.LimFault.TheVariants as limits_fault
+use Rattle.limits_text.specs.declared.read.Bounds.{Bounds}
 use Rattle.plan_text.specs.declared.PlanTextFault.{PlanTextFault}
 use Rattle.plan_text.specs.declared.PlanTextFault.TheVariants as plan_fault
 use Rattle.commands.specs.declared.FileKind.{FileKind}
@@ -24,7 +25,7 @@ use Rattle.commands.specs.declared.Status.{Status}
 use Rattle.commands.specs.declared.Status.TheVariants.{Done, Refused, BadWords, ReadFault, WriteFault, NoMemory}
 use Rattle.commands.specs.declared.Verdict.{Verdict}
 use Rattle.commands.specs.declared.Verdict.TheVariants.{Answered, CannotRead, NoMemory as OutOfMemory}
-use Rattle.commands.specs.declared.loading.Bounds.{Bounds}
+use Rattle.commands.specs.declared.loading.PlanPlaces.{PlanPlaces}
 use Rattle.commands.specs.AcceptedPlans.{AcceptedValue}
 use Rattle.commands.specs.Texts.{is_line, bad_words_line, chip_line, chip_limit_line, limits_line, unknown_test_line, loop_line, test_power_line, plan_line, fault_line}
 use Rattle.commands.specs.Readings.{most_of, IsRead, SaysLimits, SaysAccepted}
@@ -102,9 +103,9 @@ LoadsLimits chip limits held before after (Ok bounds) =
 LoadsLimits chip limits held before after (Err verdict) = Follows (with_limits chip limits (λ bounds. nothing)) held before after verdict
 
 -- and so a plan that is accepted for a chip under limits
-abbrev pub LoadsAccepted : SocValue → LimitsValue → (plan : List ℕ) → Option Files → ℕ → ℕ → Result PlanModel Verdict → Type 0
-LoadsAccepted chip bounds plan held before after (Ok value) =
-    IfSome held (λ files. IsRead Plan (SaysAccepted chip bounds) (get files plan) (plan_value value))
+abbrev pub LoadsAccepted : SocValue → LimitsValue → (plan : List ℕ) → Option Files → ℕ → ℕ → Result PlanPlaces Verdict → Type 0
+LoadsAccepted chip bounds plan held before after (Ok found) =
+    IfSome held (λ files. IsRead Plan (SaysAccepted chip bounds) (get files plan) (plan_value found.plan))
 LoadsAccepted chip bounds plan held before after (Err verdict) =
     Follows (with_accepted chip bounds plan (λ value. nothing)) held before after verdict
 
@@ -175,8 +176,9 @@ abbrev pub RefusesValue : PlanTextFault → Verdict → Type 0
 RefusesValue (plan_fault.Text line) verdict = Refuses (plan_line line) verdict
 RefusesValue plan_fault.NoMemory verdict = verdict ≡ OutOfMemory
 
--- the plan where it is accepted, or the answer to its fault
-abbrev pub AnswersCheck : SocValue → LimitsValue → PlanValue → Result PlanModel Verdict → Type 0
-AnswersCheck chip bounds value (Ok plan) = (plan_value plan ≡ value) × IsFaultless chip bounds value
+-- the plan, placed, where it is accepted, or the answer to its fault
+abbrev pub AnswersCheck : SocValue → LimitsValue → PlanValue → Result PlanPlaces Verdict → Type 0
+AnswersCheck chip bounds value (Ok found) =
+    (plan_value found.plan ≡ value) × IsFaultless chip bounds value × IsPlaced chip value found.placed
 AnswersCheck chip bounds value (Err verdict) =
     ((fault : FaultValue) × IsFault chip bounds value fault × Refuses (fault_line fault) verdict) ⊎ (verdict ≡ OutOfMemory)

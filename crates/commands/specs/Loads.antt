@@ -6,18 +6,18 @@ use Rattle.outside.specs.declared.shelf.Loaded.{Loaded}
 use Rattle.outside.specs.declared.shelf.Loaded.TheVariants as loaded
 use Rattle.soc_model.specs.declared.Soc.{Soc as SocModel}
 use Rattle.soc_model.specs.Chips.{SocValue, soc_value}
-use Rattle.plan_model.specs.declared.Plan.{Plan as PlanModel}
 use Rattle.plan_model.specs.Plans.{LimitsValue, PlanValue}
 use Rattle.live_tests.specs.Problems.{ProblemValue}
 use Rattle.plan_model.specs.Views.{limits_value, plan_value}
 use Rattle.soc_reader.specs.ChipForm.{SaysChip}
+use Rattle.limits_text.specs.declared.read.Bounds.{Bounds}
 use Rattle.commands.specs.declared.FileKind.{FileKind}
 use Rattle.commands.specs.declared.FileKind.TheVariants.{Soc, Limits, Plan}
 use Rattle.commands.specs.declared.Status.{Status}
 use Rattle.commands.specs.declared.Status.TheVariants.{Done, Refused, BadWords, ReadFault, TooLong, NoMemory}
 use Rattle.commands.specs.declared.Verdict.{Verdict}
 use Rattle.commands.specs.declared.Verdict.TheVariants.{Answered, CannotRead, NoMemory as OutOfMemory}
-use Rattle.commands.specs.declared.loading.Bounds.{Bounds}
+use Rattle.commands.specs.declared.loading.PlanPlaces.{PlanPlaces}
 use Rattle.commands.specs.AcceptedPlans.{AcceptedValue}
 use Rattle.commands.specs.Texts.{bad_words_line, unread_line, too_long_line}
 use Rattle.commands.specs.Readings.{most_of, RefusesChip, SaysLimits, RefusesLimits, SaysAccepted, RefusesPlan}
@@ -144,9 +144,9 @@ LoadsBounds is_load chip limits first (Ok bounds) last =
 LoadsBounds is_load chip limits first (Err verdict) last =
     OfVerdict (λ status text. StopsAt is_load Limits (RefusesLimits chip) limits first status text last) verdict
 
-abbrev pub LoadsPlan : {S : Type 0} → LoadsOf S → SocValue → LimitsValue → (plan : List ℕ) → S → Result PlanModel Verdict → S → Type 0
-LoadsPlan is_load chip bounds plan first (Ok value) last =
-    IsLoaded is_load Plan (SaysAccepted chip bounds) plan (plan_value value) first last
+abbrev pub LoadsPlan : {S : Type 0} → LoadsOf S → SocValue → LimitsValue → (plan : List ℕ) → S → Result PlanPlaces Verdict → S → Type 0
+LoadsPlan is_load chip bounds plan first (Ok found) last =
+    IsLoaded is_load Plan (SaysAccepted chip bounds) plan (plan_value found.plan) first last
 LoadsPlan is_load chip bounds plan first (Err verdict) last =
     OfVerdict (λ status text. StopsAt is_load Plan (RefusesPlan chip bounds) plan first status text last) verdict
 

@@ -14,7 +14,7 @@ mod writing;
 
 pub use laws::files_say_one_thing;
 pub use lines::{
-    less_line, limit_word, numbered, push_decimal, push_test, push_text, push_two, run_line,
+    less_line, limit_word, number_line, push_decimal, push_test, push_text, push_two, run_line,
 };
 pub use loading::{
     Accepted, Both, answered_with, bad_words, load_all, load_both, load_chip, load_file,

@@ -186,7 +186,7 @@ fn push_carried(to: &mut Vec<u8>, fault: &PlanFault) -> Result<(), NoMemory>
 }
 
 /// A line of words, which have no line feed, and a number.
-pub fn numbered(alloc: Global, words: &[u8], number: u128) -> Result<Vec<u8>, NoMemory>
+pub fn number_line(alloc: Global, words: &[u8], number: u128) -> Result<Vec<u8>, NoMemory>
     requires { IsTrue (no_feed words.now) }
     ensures text { IfOk result (λ text. text.items ≡ words.now ++ decimal number ++ codes "\n") }
     ensures line { IfOk result (λ text. IsTrue (is_line text.items)) }
@@ -224,7 +224,7 @@ pub(crate) fn chip_line(alloc: Global, line: u64) -> Result<Vec<u8>, NoMemory>
     ensures text { IfOk result (λ text. text.items ≡ chip_line_text line) }
     ensures line { IfOk result (λ text. IsTrue (is_line text.items)) }
 {
-    numbered(alloc, b"refused soc line ", u128::from(line))
+    number_line(alloc, b"refused soc line ", u128::from(line))
 }
 
 /// `refused soc limit`, the name of the limit and the number that passes it.
@@ -245,7 +245,7 @@ pub(crate) fn limits_line(alloc: Global, line: u64) -> Result<Vec<u8>, NoMemory>
     ensures text { IfOk result (λ text. text.items ≡ limits_line_text line) }
     ensures line { IfOk result (λ text. IsTrue (is_line text.items)) }
 {
-    numbered(alloc, b"refused limits line ", u128::from(line))
+    number_line(alloc, b"refused limits line ", u128::from(line))
 }
 
 /// `refused limits unknown test line` and the line.
@@ -253,7 +253,7 @@ pub(crate) fn unknown_test_line(alloc: Global, line: u64) -> Result<Vec<u8>, NoM
     ensures text { IfOk result (λ text. text.items ≡ unknown_test_text line) }
     ensures line { IfOk result (λ text. IsTrue (is_line text.items)) }
 {
-    numbered(
+    number_line(
         alloc,
         b"refused limits unknown test line ",
         u128::from(line),
@@ -303,7 +303,7 @@ pub(crate) fn plan_line(alloc: Global, line: u64) -> Result<Vec<u8>, NoMemory>
     ensures text { IfOk result (λ text. text.items ≡ plan_line_text line) }
     ensures line { IfOk result (λ text. IsTrue (is_line text.items)) }
 {
-    numbered(alloc, b"refused plan line ", u128::from(line))
+    number_line(alloc, b"refused plan line ", u128::from(line))
 }
 
 /// `refused plan` and the fault.
@@ -324,5 +324,5 @@ pub fn run_line(alloc: Global, cells: u128) -> Result<Vec<u8>, NoMemory>
     ensures text { IfOk result (λ text. text.items ≡ run_line_text cells) }
     ensures line { IfOk result (λ text. IsTrue (is_line text.items)) }
 {
-    numbered(alloc, b"refused run ", cells)
+    number_line(alloc, b"refused run ", cells)
 }

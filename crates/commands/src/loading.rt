@@ -1,12 +1,15 @@
 //! Loads and reads the files of a command, each only where the ones before it are taken.
-ghost use Rattle.std.specs.Prelude.{◌≡◌, ◌≤◌, Ok, Err, IfErr, IfOk};
+ghost use Rattle.std.specs.Prelude.{◌≡◌, ◌≤◌, IfOk, sum};
 ghost use Rattle.soc_model.specs.Chips.{soc_value};
 ghost use Rattle.soc_model.specs.SoundChips.{IsSoundChip};
+ghost use Rattle.plan_model.specs.declared.TheConstants.{WIRES_MOST};
 ghost use Rattle.plan_model.specs.Faults.{IsFaultless};
+ghost use Rattle.plan_model.specs.Plans.{widths};
+ghost use Rattle.plan_model.specs.Rules.{IsGood};
 ghost use Rattle.plan_model.specs.Views.{limits_value, plan_value};
 ghost use Rattle.plan_model.specs.SoundLimits.{IsSoundLimits};
+ghost use Rattle.live_tests.specs.Placed.{IsPlaced};
 ghost use Rattle.live_tests.specs.Resolved.{IsResolved};
-ghost use Rattle.limits_text.specs.Answers.{LimitsRead};
 ghost use Rattle.plan_text.specs.Grammar.{AreSmallStarts};
 ghost use Rattle.commands.specs.declared.Status.TheVariants.{Refused, BadWords};
 ghost use Rattle.commands.specs.Texts.{bad_words_line};
@@ -19,10 +22,10 @@ use crate::lines::{
     too_long_line, unknown_test_line,
 };
 use crate::{DATA_FILE_MOST, FILE_MOST, FileKind, PLAN_FILE_MOST, Status, Verdict};
-use limits_text::{LimFault, read_limits_with, resolved_of};
-use live_tests::{Problem, Resolved};
+use limits_text::{Bounds, LimFault, read_bounds};
+use live_tests::{Placed, PlacedPlan, Problem, Resolved};
 use outside::{Loaded, NoMemory, Shelf};
-use plan_checker::first_fault;
+use plan_checker::judge_plan;
 use plan_model::{Limits, Plan};
 use plan_text::{PlanTextFault, read_plan};
 use soc_model::{Soc, SocLimit};
@@ -64,13 +67,14 @@ impl Both {
     }
 }
 
-/// A chip, limits for it, and a plan that is accepted for both.
+/// A chip, limits for it, and a plan that is accepted for both, placed.
 #[derive(Drop)]
 pub struct Accepted {
     pub soc: Soc,
     pub limits: Limits,
     pub resolved: Resolved,
     pub plan: Plan,
+    pub placed: Placed,
 }
 
 impl Model for Accepted {
@@ -82,7 +86,7 @@ impl Model for Accepted {
 
     ghost view = { λ a. record { soc = soc_value a.soc; limits = limits_value a.limits; plan = plan_value a.plan } };
 
-    ghost invariant = { λ a. IsAccepted a.soc a.limits a.resolved a.plan };
+    ghost invariant = { λ a. IsAccepted a.soc a.limits a.resolved a.plan a.placed };
 }
 
 impl Accepted {
@@ -92,6 +96,17 @@ impl Accepted {
         ensures limits { result.limits ≡ self.now.limits }
     {
         Problem::new(&self.soc, &self.limits, &self.resolved)
+    }
+
+    /// The plan, placed, with its chip, lent. It keeps the limits, which are sound, and has no more wires than limits may have.
+    pub fn placed_plan(&self) -> PlacedPlan<'_>
+        ensures chip { result.soc ≡ self.now.soc }
+        ensures plan { result.plan ≡ self.now.plan }
+        ensures bounds { IsSoundLimits result.soc self.now.limits }
+        ensures good { IsGood result.soc self.now.limits result.plan }
+        ensures narrow { sum (widths result.plan) ≤ WIRES_MOST }
+    {
+        PlacedPlan::new(&self.soc, &self.plan, &self.resolved.tests, &self.placed)
     }
 
     /// Frees what was read, as [`Both::free`].
@@ -213,25 +228,6 @@ fn refused_limits(alloc: Global, fault: LimFault) -> Verdict
     }
 }
 
-/// Limits for a chip, and what both say by place.
-#[derive(Drop)]
-pub(crate) struct Bounds {
-    pub(crate) limits: Limits,
-    pub(crate) resolved: Resolved,
-}
-
-/// The limits that bytes say for a chip, resolved with it once. The live tests that were noted to read them are taken for that.
-fn read_bounds(alloc: Global, bytes: &[u8], soc: &Soc) -> Result<Bounds, LimFault>
-    ensures read { IfOk result (λ bounds. LimitsRead bytes.now (soc_value soc.now) (Ok bounds.limits)) }
-    ensures refused { IfErr result (λ fault. LimitsRead bytes.now (soc_value soc.now) (Err fault)) }
-    ensures resolved { IfOk result (λ bounds. IsResolved (soc_value soc.now) bounds.limits bounds.resolved) }
-{
-    let mut live = None;
-    let limits = read_limits_with(alloc, bytes, soc, &mut live)?;
-    let resolved = resolved_of(alloc, soc, &limits, live)?;
-    Ok(Bounds { limits, resolved })
-}
-
 /// Loads and reads limits for a chip, else how the command ends.
 fn load_limits<H: Shelf>(
     alloc: Global,
@@ -264,26 +260,32 @@ fn refused_plan(alloc: Global, fault: PlanTextFault) -> Verdict
     }
 }
 
-/// The plan where it is good and its certificate accepted, else the answer to its fault.
-fn checked(alloc: Global, soc: &Soc, limits: &Limits, plan: Plan) -> Result<Plan, Verdict>
-    requires chip { IsSoundChip (soc_value soc.now) }
-    requires limits { IsSoundLimits (soc_value soc.now) (limits_value limits.now) }
-    requires starts { AreSmallStarts (plan_value plan).starts }
-    ensures { AnswersCheck (soc_value soc.now) (limits_value limits.now) (plan_value plan) result }
+/// A plan, and what it says of its chip by place.
+#[derive(Drop)]
+pub(crate) struct PlanPlaces {
+    pub(crate) plan: Plan,
+    pub(crate) placed: Placed,
+}
+
+/// The plan, placed, where it is good and its certificate accepted, else the answer to its fault.
+fn checked(alloc: Global, problem: &Problem<'_>, plan: Plan) -> Result<PlanPlaces, Verdict>
+    requires { AreSmallStarts (plan_value plan).starts }
+    ensures { AnswersCheck problem.now.soc problem.now.limits (plan_value plan) result }
 {
-    match first_fault(alloc, soc, limits, &plan) {
-        Ok(None) => Ok(plan),
-        Ok(Some(fault)) => Err(refused_with(fault_line(alloc, &fault))),
+    match judge_plan(alloc, problem, &plan) {
+        Ok(Ok(placed)) => Ok(PlanPlaces { plan, placed }),
+        Ok(Err(fault)) => Err(refused_with(fault_line(alloc, &fault))),
         Err(_) => Err(Verdict::NoMemory),
     }
 }
 
-/// The plan where it is accepted for a chip and its limits, else the answer to its fault.
-fn accepted_plan(alloc: Global, both: &Both, plan: Plan) -> Result<Plan, Verdict>
+/// The plan, placed, where it is accepted for a chip and its limits, else the answer to its fault.
+fn accepted_plan(alloc: Global, both: &Both, plan: Plan) -> Result<PlanPlaces, Verdict>
     requires { AreSmallStarts (plan_value plan).starts }
     ensures { AnswersCheck both.now.soc both.now.limits (plan_value plan) result }
 {
-    checked(alloc, &both.soc, &both.limits, plan)
+    let problem = both.problem();
+    checked(alloc, &problem, plan)
 }
 
 /// Loads and reads a plan for a chip under limits and checks it, else how the command ends.
@@ -292,10 +294,11 @@ fn load_accepted_plan<H: Shelf>(
     both: &Both,
     name: &str,
     shelf: &mut H,
-) -> Result<Plan, Verdict>
+) -> Result<PlanPlaces, Verdict>
     ensures held_stays { H.held shelf.new ≡ H.held shelf.old }
     ensures faults_never_fall { H.faults shelf.old ≤ H.faults shelf.new }
-    ensures accepted { IfOk result (λ plan. IsFaultless both.now.soc both.now.limits (plan_value plan)) }
+    ensures accepted { IfOk result (λ found. IsFaultless both.now.soc both.now.limits (plan_value found.plan)) }
+    ensures placed { IfOk result (λ found. IsPlaced both.now.soc (plan_value found.plan) found.placed) }
     ensures loads { LoadsAccepted both.now.soc both.now.limits name.now (H.held shelf.old) (H.faults shelf.old)
         (H.faults shelf.new) result }
     ensures by_loads { LoadsPlan H.is_load both.now.soc both.now.limits
@@ -308,18 +311,20 @@ fn load_accepted_plan<H: Shelf>(
     }
 }
 
-/// A chip, its limits and a plan that is accepted for them.
-fn accepted_for(both: Both, plan: Plan) -> Accepted
-    requires { IsFaultless both.soc both.limits (plan_value plan) }
+/// A chip, its limits and a plan that is accepted for them, placed.
+fn accepted_for(both: Both, found: PlanPlaces) -> Accepted
+    requires accepted { IsFaultless both.soc both.limits (plan_value found.plan) }
+    requires placed { IsPlaced both.soc (plan_value found.plan) found.placed }
     ensures chip { result.soc ≡ both.soc }
     ensures limits { result.limits ≡ both.limits }
-    ensures plan { result.plan ≡ plan_value plan }
+    ensures plan { result.plan ≡ plan_value found.plan }
 {
     Accepted {
         soc: both.soc,
         limits: both.limits,
         resolved: both.resolved,
-        plan,
+        plan: found.plan,
+        placed: found.placed,
     }
 }
 

@@ -13,3 +13,4 @@ pub mod OneAnswer
 pub mod PrintedTexts
 pub mod RanksOrLoops
 pub mod Noting
+pub mod BoundsSaid

@@ -2,10 +2,10 @@
 use Rattle.std.proofs.Common.{◌≡◌, ◌≢◌, ℕ, suc, add-one, zero-add, ◌+◌, ◌<◌, ◌⊎◌, inl, inr, Bool, true, false, ◌&&◌, ◌||◌, not, cond, List, [], ◌∷◌, ◌++◌, length, get_or, map, set, replicate, take, drop, reverse, option_map, Option, None, Some, is_some, nat_eq, nat_lt, position, slice_get, refl, sym, ap, ◌∙◌, subst, arith, if◌then◌else◌, flat_map, Contains, Err}
 use Rattle.std.specs.List.{list_any, position_or_len, range_with_len}
 use Rattle.std.proofs.Math.Seq.{drop-cons}
-use Rattle.std.proofs.lemmas.Bool.{cases_eq, cases_Bool}
+use Rattle.std.proofs.lemmas.Bool.{cases_eq, cases_Bool, eqb-true}
 use Rattle.std.proofs.lemmas.Bool.Decides.{nat_tests}
 use Rattle.std.proofs.lemmas.Grind.{flat_map-append}
-use Rattle.std.proofs.lemmas.List.{take_more, map-append, append-nil, reverse-append, reverse-reverse, length-replicate, length-set, get_or-replicate, get_or-set_same, get_or-set_other, same_lists}
+use Rattle.std.proofs.lemmas.List.{take_more, map-append, append-nil, nil_from_length, reverse-append, reverse-reverse, length-replicate, length-set, get_or-replicate, get_or-set_same, get_or-set_other, same_lists}
 use Rattle.std.proofs.lemmas.List.Folds.{list_any-append}
 use Rattle.std.proofs.lemmas.List.FromFn.{get_or-map-range_with_len, length-map-range_with_len}
 use Rattle.std.proofs.lemmas.Option.{slice_get-map, get_or_from_slice_get, same_Some}
@@ -296,11 +296,11 @@ module _ (soc : SocValue) where
   none_named (before_item line a b ∷ items) e = absurd cc
   none_named (profile_item line id steps ∷ items) e = absurd cc
 
-  -- limits of such items have no loop
-  pub no_loop : (items : List Item) (limits : LimitsValue) → limits ≡ limits_of (reverse items) → flat_map (pair_of soc) items ≡ [] → IsAcyclic soc limits
-  no_loop items limits is none =
-      let pairs : precedences soc limits ≡ [] = sym (noted_told soc items limits (flat_map (pair_of soc) items) is refl) ∙ none in
-      acyclic soc limits ((λ i. 0), λ i j there. absurd (nothing i j (contains_at {X = ℕ × ℕ} [] (i, j) (subst (λ (ps : List (ℕ × ℕ)). Contains ps (i, j)) pairs there))))
+  -- without a precedence there is no loop
+  pub no_loop : (limits : LimitsValue) (pairs : List (ℕ × ℕ)) → nat_eq (length pairs) 0 ≡ true → pairs ≡ precedences soc limits → IsAcyclic soc limits
+  no_loop limits pairs none is =
+      let empty : precedences soc limits ≡ [] = sym is ∙ nil_from_length pairs (eqb-true (length pairs) 0 none) in
+      acyclic soc limits ((λ i. 0), λ i j there. absurd (nothing i j (contains_at {X = ℕ × ℕ} [] (i, j) (subst (λ (ps : List (ℕ × ℕ)). Contains ps (i, j)) empty there))))
     where
       nothing : (i j : ℕ) → (k : ℕ) × (slice_get {X = ℕ × ℕ} [] k ≡ Some (i, j)) → ⊥
       nothing i j at = cc

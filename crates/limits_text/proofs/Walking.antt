@@ -193,7 +193,7 @@ module _ {next : List ℕ} {start : ℕ} {walk : List ℕ} {test : ℕ} (w : IsW
       at : slice_get walk meets ≡ Some test
       at = slice_get-from_position walk test meets found
 
--- the same of what the code looks through
+-- a test that isn't among what the code looks through isn't on the walk
 pub seen_none : (test : ℕ) (walk seen : List ℕ) (o : Option ℕ) → seen ≡ walk → o ≡ position (nat_eq test) seen → o ≡ None → position (nat_eq test) walk ≡ None
 seen_none test walk seen o same found none = ap (position (nat_eq test)) (sym same) ∙ sym found ∙ none
 

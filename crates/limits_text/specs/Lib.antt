@@ -10,4 +10,5 @@ pub mod Loops
 pub mod Orders
 pub mod Texts
 pub mod Answers
+pub mod Bounds
 pub mod Laws

@@ -1,5 +1,5 @@
 -- The tests of a chip and their places among its live tests.
-use Rattle.std.specs.Prelude.{◌≡◌, ◌+◌, ◌++◌, ℕ, Option, None, Some, List, [], Bool, true, false, length, map, nat_eq, if◌then◌else◌, reverse, option_map, position, Result, Ok, Err, MatchOption}
+use Rattle.std.specs.Prelude.{◌≡◌, ◌+◌, ◌++◌, ℕ, Option, None, Some, List, [], Bool, true, false, length, map, nat_eq, if◌then◌else◌, option_map, position, Result, Ok, Err}
 use Rattle.std.specs.Global.{Vec}
 use Rattle.std.specs.List.{flat_map, list_any, range_with_len}
 use Rattle.soc_model.specs.declared.Module.{Module}
@@ -12,12 +12,10 @@ use Rattle.plan_model.specs.Rules.{live_ids}
 use Rattle.live_tests.specs.Names.{places_of}
 use Rattle.limits_text.specs.declared.LimFault.{LimFault}
 use Rattle.limits_text.specs.declared.LimFault.TheVariants as fault
+use Rattle.limits_text.specs.declared.named.NamedTests.{NamedTests}
 use Rattle.limits_text.specs.declared.places.Row.{Row}
 use Rattle.limits_text.specs.Items.{Item, amount_item, before_item, profile_item}
-use Rattle.plan_model.specs.Plans.{LimitsValue}
-use Rattle.plan_model.specs.SoundLimits.{IsAcyclic}
-use Rattle.limits_text.specs.Loops.{IsLoopOf}
-use Rattle.limits_text.specs.Meaning.{unknown_line, first_line, limits_of}
+use Rattle.limits_text.specs.Meaning.{unknown_line, first_line}
 
 -- What is noted of a number beside a module's: where the name of these two stands among the names. Nothing where none of the
 -- tests has that number.
@@ -25,7 +23,7 @@ abbrev pub entry_of : List TestId → ℕ → List Test → ℕ → Option (Opti
 entry_of ids number tests n = if list_any (λ (t : Test). nat_eq n t.number) tests
     then Some (position (same_test (record { «module» = number; test = n })) ids) else None
 
--- the same for each number up to the count of the module's tests
+-- what is noted of each number up to the count of the module's tests
 abbrev pub row_of : List TestId → ℕ × Module → List (Option (Option ℕ))
 row_of ids e = map (entry_of ids e.0 (e.1).tests.items) (range_with_len 0 (length (e.1).tests.items + 1))
 
@@ -75,9 +73,8 @@ names_test (amount_item a n) = false
 names_test (before_item line a b) = true
 names_test (profile_item line id steps) = true
 
--- The items name tests of the chip alone, and the limits that they say have this first loop, or none.
-abbrev pub HasFirstLoop : SocValue → List Item → Result (Option (Vec TestId)) LimFault → Type 0
-HasFirstLoop soc items (Ok found) = (first_line soc items ≡ None)
-    × ((limits : LimitsValue) → limits ≡ limits_of (reverse items) →
-    MatchOption found (IsAcyclic soc limits) (λ circle. IsLoopOf soc limits circle.items))
-HasFirstLoop soc items (Err f) = StopsAt soc items f
+-- The items name tests of the chip alone; these are the live tests of the chip, and the places of the items that are precedences.
+abbrev pub AreNamed : SocValue → List Item → Result NamedTests LimFault → Type 0
+AreNamed soc items (Ok named) =
+    (first_line soc items ≡ None) × (named.tests ≡ live_ids soc) × (named.precedences.items ≡ flat_map (pair_of soc) items)
+AreNamed soc items (Err f) = StopsAt soc items f

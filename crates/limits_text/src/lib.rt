@@ -8,6 +8,7 @@ mod items;
 mod laws;
 mod lexicon;
 mod loops;
+mod named;
 mod places;
 mod print;
 mod read;
@@ -20,10 +21,9 @@ pub use laws::{
     printed_limits_are_answered, printed_limits_are_read, texts_are_answered,
     texts_have_one_answer,
 };
-pub use loops::{noted_tests, resolved_of};
 use outside::{NoMemory, Unread};
 pub use print::print_limits;
-pub use read::{read_limits, read_limits_with};
+pub use read::{Bounds, read_bounds, read_limits};
 use soc_model::TestId;
 use thiserror::Error;
 

@@ -1,5 +1,5 @@
 //! What a chip refuses of limits: powers that pass the limit.
-ghost use Rattle.std.specs.Prelude.{◌≡◌, ℕ, ◌∷◌, [], map, find, nat_lt, IfOk, MatchOption};
+ghost use Rattle.std.specs.Prelude.{◌≡◌, ℕ, ◌∷◌, [], map, find, nat_lt, MatchOption};
 ghost use Rattle.soc_model.specs.Chips.{soc_value, module_value, live_of, live_tests};
 ghost use Rattle.plan_model.specs.Views.{limits_value, profile_value};
 ghost use Rattle.live_tests.specs.Profiles.{AreProfilePlaces};
@@ -7,11 +7,9 @@ ghost use Rattle.limits_text.specs.Meaning.{powers_named, NonePasses, IsFirstPas
 ghost use Rattle.limits_text.specs.Passing.{live_at, passing, first_passing};
 
 use indexmap::IndexMap;
-use live_tests::{profile_place, profile_places};
-use outside::NoMemory;
+use live_tests::profile_place;
 use plan_model::{Limits, Profile};
 use soc_model::{Module, Soc, Test, TestId, live};
-use std::alloc::Global;
 
 /// The powers of the steps of a profile: the first that passes the limit.
 fn passing_step(steps: &[(u64, u64)], most: u64) -> Option<u64>
@@ -107,20 +105,17 @@ fn first_test(
     None
 }
 
-/// The first live test that passes the limit, with the first such power of it. `NoMemory` where there is none to find
-/// profiles by.
+/// The first live test that passes the limit, with the first such power of it.
 pub fn test_power(
-    alloc: Global,
     soc: &Soc,
     limits: &Limits,
-) -> Result<Option<(TestId, u64)>, NoMemory>
-    ensures { IfOk result (λ found. MatchOption found
+    places: &IndexMap<TestId, usize>,
+) -> Option<(TestId, u64)>
+    requires { AreProfilePlaces places.now limits.now.profiles.items }
+    ensures { MatchOption result
         (NonePasses (soc_value soc.now) (limits_value limits.now))
-        (λ first. IsFirstPassing (soc_value soc.now) (limits_value limits.now) first.0 first.1)) }
+        (λ first. IsFirstPassing (soc_value soc.now) (limits_value limits.now) first.0 first.1) }
 {
-    let Some(most) = limits.power else {
-        return Ok(None);
-    };
-    let places = profile_places(alloc, &limits.profiles)?;
-    Ok(first_test(&limits.profiles, &places, most, soc))
+    let most = limits.power?;
+    first_test(&limits.profiles, places, most, soc)
 }

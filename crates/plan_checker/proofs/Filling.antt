@@ -6,14 +6,17 @@ use Rattle.std.proofs.lemmas.List.{length-append, length-map, map-append, take_m
 use Rattle.std.proofs.lemmas.List.Elements.{filter-append}
 use Rattle.std.proofs.lemmas.Option.{slice_get_within, get_or_from_slice_get}
 use Rattle.soc_model.specs.declared.TestId.{TestId}
-use Rattle.soc_model.specs.Chips.{ModuleValue, SocValue, LiveTest, live_from, live_tests, same_test}
+use Rattle.soc_model.specs.declared.Test.{Test}
+use Rattle.soc_model.specs.Chips.{ModuleValue, SocValue, LiveTest, id_of, live_from, live_tests, same_test}
 use Rattle.plan_model.specs.Plans.{PlanValue, planned, planned_test}
 use Rattle.live_tests.specs.Names.{AllDiffer, names_in}
 use Rattle.live_tests.specs.Placed.{placed_in, placed_of, placed_tests}
 use Rattle.live_tests.specs.declared.placed.PlacedTest.{PlacedTest}
-use Rattle.live_tests.proofs.Placing.{module_more, placed_live}
+use Rattle.live_tests.proofs.Placing.{module_more, names_placed, placed_live, the_live}
+use Rattle.plan_model.specs.Rules.{live_ids}
+use Rattle.plan_checker.proofs.Firsts.{get_behind}
 use Rattle.plan_checker.proofs.Rooms.{same_test_is}
-use Rattle.common_lemmas.proofs.Lists.{any_at, at_left}
+use Rattle.common_lemmas.proofs.Lists.{any_at, at_left, map_at}
 
 -- ---- what passes at the front of a list
 
@@ -41,6 +44,13 @@ passing_room f p xs k x at passes =
 -- where what passes has room behind `done`, the next one does
 pub passing_within : {X Y : Type 0} (f : X → Y) (p : X → Bool) (xs : List X) (k : ℕ) (x : X) (done next n : ℕ) → slice_get xs k ≡ Some x → p x ≡ true → next ≡ done + length (map f (filter p (take k xs))) → done + length (map f (filter p xs)) ≤ n → next < n
 passing_within f p xs k x done next n at passes is room = omega (arith, passing_room f p xs k x at passes, is, room)
+
+-- it stands behind those before it
+pub passing_at : {X Y : Type 0} (f : X → Y) (p : X → Bool) (xs : List X) (k : ℕ) (x : X) → slice_get xs k ≡ Some x → p x ≡ true → slice_get (map f (filter p xs)) (length (map f (filter p (take k xs)))) ≡ Some (f x)
+passing_at f p xs k x at passes = ap (λ l. slice_get l (length (map f (filter p (take k xs))))) (passing_split f p xs k x at passes) ∙ middle (map f (filter p (take k xs))) (f x) (map f (filter p (drop (suc k) xs))) where
+  middle : {Y : Type 0} (xs : List Y) (y : Y) (ys : List Y) → slice_get (xs ++ y ∷ ys) (length xs) ≡ Some y
+  middle [] y ys = refl
+  middle (x ∷ xs) y ys = middle xs y ys
 
 -- ---- names
 
@@ -87,6 +97,21 @@ pub module_room : (plan : PlanValue) (old all : List PlacedTest) (place : ℕ) (
 module_room plan old all place ms m at before =
     let e = ap length (module_more plan old (old ++ placed_in plan place m m.tests) all place (place + 1) ms m refl at refl before) in
     omega (arith, simp length-append at e)
+
+-- the tests of a module stand behind those of the modules before it
+pub module_at : (plan : PlanValue) (old all : List PlacedTest) (place done : ℕ) (ms : List ModuleValue) (m : ModuleValue) → slice_get ms place ≡ Some m → old ++ map (placed_live plan) (live_from place (drop place ms)) ≡ all → length old ≡ done
+    → (k : ℕ) (t : PlacedTest) → slice_get (placed_in plan place m m.tests) k ≡ Some t → slice_get all (done + k) ≡ Some t
+module_at plan old all place done ms m at before long k t there =
+    let here = placed_in plan place m m.tests in
+    let e = module_more plan old (old ++ here) all place (place + 1) ms m refl at refl before in
+    ap (λ l. slice_get l (done + k)) (sym e)
+    ∙ at_left (old ++ here) (map (placed_live plan) (live_from (place + 1) (drop (place + 1) ms))) (done + k) t
+    (ap (λ n. slice_get (old ++ here) (n + k)) (sym long) ∙ get_behind old here k ∙ there)
+
+-- the live test of a placed one
+pub called : (soc : SocValue) (plan : PlanValue) (at place : ℕ) (m : ModuleValue) (t : Test) → slice_get (placed_tests soc plan) at ≡ Some (placed_of (planned_test plan place m t)) → slice_get (live_ids soc) at ≡ Some (id_of (the_live place m t))
+unfolding planned_test
+called soc plan at place m t there = ap (λ l. slice_get l at) (sym (names_placed soc plan)) ∙ map_at (λ (j : PlacedTest). j.id) (placed_tests soc plan) at (placed_of (planned_test plan place m t)) there
 
 pub placed_length : (soc : SocValue) (plan : PlanValue) → length (placed_tests soc plan) ≡ length (live_tests soc)
 unfolding planned

@@ -1,15 +1,9 @@
 -- What the look-ups in a chip find.
-use Rattle.std.proofs.Common.{◌≡◌, ℕ, zero, suc, ◌+◌, ◌≤◌, ◌<◌, Bool, true, false, eqb, Option, Some, None, List, [], ◌∷◌, length, map, refl, ap, ◌∙◌, sym, arith, inl, inr, eq-eqb, true≢false, slice_get, IfSome, IfNone, filter, position, Contains}
+use Rattle.std.proofs.Common.{◌≡◌, ℕ, zero, suc, ◌+◌, ◌≤◌, ◌<◌, Bool, true, false, eqb, Option, Some, None, List, [], ◌∷◌, length, map, refl, ◌∙◌, sym, arith, inl, inr, eq-eqb, true≢false, slice_get, IfSome, IfNone, position}
 use Rattle.std.specs.List.{position_or_len}
 use Rattle.std.proofs.lemmas.Bool.{cases_Bool, cases_lt, eqb-true, lt-ltb, le-ltb}
-use Rattle.std.proofs.lemmas.Option.{slice_get_within, get_or_from_slice_get, slice_get-map}
-use Rattle.soc_model.specs.declared.Test.{Test}
-use Rattle.soc_model.specs.Chips.{ModuleValue, SocValue, is_live}
-use Rattle.plan_model.specs.Rules.{live_ids}
-use Rattle.plan_model.proofs.Lists.{in_flat_map}
-use Rattle.live_tests.specs.Names.{name_in, names_in}
-use Rattle.live_tests.proofs.Indexing.{names_are}
-use Rattle.common_lemmas.proofs.Lists.{contains_from, in_filter}
+use Rattle.std.proofs.lemmas.Option.{slice_get-map}
+use Rattle.soc_model.specs.Chips.{ModuleValue}
 
 pub some_same : {X : Type 0} {x y : X} → Some x ≡ Some y → x ≡ y
 some_same e = cc
@@ -60,16 +54,6 @@ position_fails p xs None e = elim (cases_lt (position_or_len p xs) (length xs)) 
 -- the number of the module at a place
 pub number_at : (ms : List ModuleValue) (p : ℕ) (m : ModuleValue) → slice_get ms p ≡ Some m → slice_get (map (λ (m : ModuleValue). m.number) ms) p ≡ Some m.number
 number_at ms p m at = slice_get-map (λ (m : ModuleValue). m.number) ms p ∙ rw at refl
-
--- ---- live tests
-
--- a live test's name is among those of the chip
-pub live_name : (soc : SocValue) (p i : ℕ) (m : ModuleValue) (t : Test) → slice_get soc.modules p ≡ Some m → slice_get m.tests i ≡ Some t → is_live t ≡ true → Contains (live_ids soc) (name_in m t)
-live_name soc p i m t at there live =
-    let f = in_filter is_live m.tests i t there live in
-    let name : slice_get (names_in m) f.0 ≡ Some (name_in m t) = slice_get-map (name_in m) (filter is_live m.tests) f.0 ∙ rw f.1 refl in
-    let n = in_flat_map names_in soc.modules p f.0 m (name_in m t) at name in
-    contains_from (live_ids soc) (name_in m t) n.0 (ap (λ l. slice_get l n.0) (sym (names_are soc)) ∙ n.1)
 
 -- ---- modules by their numbers
 

@@ -5,9 +5,11 @@ pub mod Breaking
 pub mod Listing
 pub mod Filling
 pub mod Starting
+pub mod Walking
 pub mod LeastPairs
 pub mod Lifting
 pub mod Ordering
+pub mod Paired
 pub mod Naming
 pub mod Marking
 pub mod Stepping

@@ -1,5 +1,5 @@
 -- The pairs of a module and a mode that want a wrapper.
-use Rattle.std.proofs.Common.{◌≡◌, ℕ, zero, suc, ◌+◌, ◌≤◌, Bool, true, false, not, Some, List, [], ◌∷◌, ◌++◌, length, map, take, leb, refl, ap, ◌∙◌, sym, subst, arith, inl, inr, true≢false, slice_get, slice_index, Contains}
+use Rattle.std.proofs.Common.{◌≡◌, ℕ, zero, suc, ◌+◌, ◌≤◌, Bool, true, false, Some, List, [], ◌∷◌, ◌++◌, length, map, take, leb, refl, ap, ◌∙◌, sym, subst, arith, inl, inr, true≢false, slice_get, slice_index, Contains}
 use Rattle.std.specs.List.{list_any}
 use Rattle.std.proofs.lemmas.Bool.{cases_Bool, cases_lt, le-leb, lt-leb}
 use Rattle.std.proofs.lemmas.List.{take_more, map-append}

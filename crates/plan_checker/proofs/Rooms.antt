@@ -1,7 +1,6 @@
 -- What the rooms of the checker hold, and that they have place for it.
-use Rattle.std.proofs.Common.{◌≡◌, ℕ, zero, suc, ◌≤◌, ◌<◌, Bool, true, eqb, Some, Result, Ok, Err, List, [], ◌∷◌, length, get_or, map, take, refl, ap, ◌∙◌, sym, arith, inl, inr, eq-eqb, true≢false, slice_get, IsOk, OnOk, Contains}
-use Rattle.std.specs.List.{list_any}
-use Rattle.std.proofs.lemmas.Bool.{cases_Bool, and_parts, eqb-true}
+use Rattle.std.proofs.Common.{◌≡◌, ℕ, zero, suc, ◌≤◌, ◌<◌, true, eqb, Some, List, [], ◌∷◌, length, get_or, map, take, refl, ap, ◌∙◌, arith, eq-eqb, slice_get, Contains}
+use Rattle.std.proofs.lemmas.Bool.{and_parts, eqb-true}
 use Rattle.std.proofs.lemmas.Option.{slice_get-get_or}
 use Rattle.soc_model.specs.declared.TestId.{TestId}
 use Rattle.soc_model.specs.Chips.{same_test}
@@ -9,10 +8,6 @@ use Rattle.plan_model.specs.Rules.{IsNew}
 use Rattle.plan_model.proofs.FirstBreaches.{EachTo}
 use Rattle.plan_checker.proofs.Firsts.{pigeon}
 use Rattle.common_lemmas.proofs.Lists.{map_at, contains_from, contains_at}
-
-pub on_ok : {T E : Type 0} (r : Result T E) (P : Type 0) → IsOk r → OnOk r P → P
-on_ok (Ok x) P is p = p
-on_ok (Err e) P is p = absurd (true≢false (sym is))
 
 pub same_test_is : (a b : TestId) → same_test a b ≡ true → a ≡ b
 same_test_is a b h =

@@ -1,10 +1,10 @@
 -- The sums over sorted events, event by event.
-use Rattle.std.proofs.Common.{◌≡◌, ℕ, zero, suc, ◌+◌, ◌*◌, ◌≤◌, ◌<◌, ◌^◌, Option, Some, None, List, [], ◌∷◌, length, get_or, take, refl, ap, ◌∙◌, sym, arith, inl, inr, slice_get, sum_by}
+use Rattle.std.proofs.Common.{◌≡◌, ℕ, ◌+◌, ◌*◌, ◌≤◌, ◌<◌, ◌^◌, Option, Some, None, List, length, get_or, take, refl, ap, ◌∙◌, sym, arith, inl, inr, slice_get, sum_by}
 use Rattle.std.specs.List.Sorted.{IsNonDecreasingBy, IsPermutation}
-use Rattle.std.proofs.lemmas.Bool.{cases_lt, cases_eq, le-leb, lt-leb}
+use Rattle.std.proofs.lemmas.Bool.{cases_lt, cases_eq}
 use Rattle.std.proofs.lemmas.List.Sorted.{sum_by-IsPermutation}
-use Rattle.std.proofs.lemmas.List.Sums.{sum_by-cons, sum_by_more}
-use Rattle.std.proofs.lemmas.Option.{slice_get_within, slice_get-get_or, get_or_from_slice_get}
+use Rattle.std.proofs.lemmas.List.Sums.{sum_by_more}
+use Rattle.std.proofs.lemmas.Option.{slice_get_within, slice_get-get_or}
 use Rattle.plan_model.specs.Plans.{LimitsValue}
 use Rattle.live_tests.specs.declared.placed.PlacedTest.{PlacedTest}
 use Rattle.power_events.specs.declared.Event.{Event}
@@ -14,27 +14,8 @@ use Rattle.power_events.specs.Events.{upto, begun_by, ended_by, all_events, IsLa
 use Rattle.power_events.specs.Loads.{drawn_by}
 use Rattle.plan_checker.specs.Power.{HasSmallSteps}
 use Rattle.power_events.proofs.Balance.{balance}
+use Rattle.power_events.proofs.Sweeping.{later_from, rises, sum_to}
 use Rattle.plan_checker.proofs.Finding.{some_same}
-
--- where the first `i` events are up to a cycle and the others come later, the sum is that of the first `i`
-sum_to : (f : Event → ℕ) (events : List Event) (i c : ℕ) → ((j : ℕ) (e : Event) → j < i → slice_get events j ≡ Some e → e.cycle ≤ c) → ((j : ℕ) (e : Event) → i ≤ j → slice_get events j ≡ Some e → c < e.cycle) → sum_by (upto c f) events ≡ sum_by f (take i events)
-sum_to f [] zero c first later = refl
-sum_to f [] (suc i) c first later = refl
-sum_to f (e ∷ es) zero c first later =
-    let here : upto c f e ≡ 0 = rw (lt-leb e.cycle c (later 0 e (omega arith) refl)) refl in
-    let rest : sum_by (upto c f) es ≡ 0 = sum_to f es zero c (λ j d less. absurd (omega arith)) (λ j d more at. later (suc j) d (omega arith) at) in
-    omega (arith, sum_by-cons (upto c f) e es, here, rest)
-sum_to f (e ∷ es) (suc i) c first later =
-    let here : upto c f e ≡ f e = rw (le-leb e.cycle c (first 0 e (omega arith) refl)) refl in
-    let rest : sum_by (upto c f) es ≡ sum_by f (take i es) = sum_to f es i c (λ j d less at. first (suc j) d (omega (arith, less)) at) (λ j d more at. later (suc j) d (omega (arith, more)) at) in
-    omega (arith, sum_by-cons (upto c f) e es, sum_by-cons f e (take i es), here, rest)
-
-rises : (events : List Event) (i j : ℕ) (d e : Event) → IsNonDecreasingBy (λ (e : Event). e.cycle) events → i ≤ j → slice_get events i ≡ Some d → slice_get events j ≡ Some e → d.cycle ≤ e.cycle
-rises events i j d e sorted order at at' =
-    let up : (get_or events i d).cycle ≤ (get_or events j d).cycle = sorted i j d order (slice_get_within events j e at') in
-    let left : get_or events i d ≡ d = get_or_from_slice_get events i d d at in
-    let right : get_or events j d ≡ e = get_or_from_slice_get events j e d at' in
-    omega (arith, up, ap (λ (e : Event). e.cycle) left, ap (λ (e : Event). e.cycle) right)
 
 -- the sums of the first `i` events, with none too high at a cycle before the next event
 pub record IsSummed (events : List Event) (most i begun ended : ℕ) : Type 0 where
@@ -51,18 +32,9 @@ none_summed events most sorted = record {
   few = omega arith;
   few_ends = omega arith;
   kept = λ d before.
-      let none : begun_by events d ≡ 0 = sum_to (λ (e : Event). e.begins) events 0 d (λ j e less. absurd (omega arith)) (λ j e more at. later d before j e at) in
+      let none : begun_by events d ≡ 0 = sum_to (λ (e : Event). e.begins) events 0 d (λ j e less. absurd (omega arith)) (later_from events 0 d sorted before) in
       omega (arith, none);
 }
-  where
-    head_there : (es : List Event) (j : ℕ) (e : Event) → slice_get es j ≡ Some e → (f : Event) × (slice_get es 0 ≡ Some f)
-    head_there [] j e at = absurd cc
-    head_there (f ∷ es) j e at = (f, refl)
-
-    later : (d : ℕ) → ((e : Event) → slice_get events 0 ≡ Some e → d < e.cycle) → (j : ℕ) (e : Event) → slice_get events j ≡ Some e → d < e.cycle
-    later d before j e at =
-        let f = head_there events j e at in
-        omega (arith, before f.0 f.1, rises events 0 j f.0 e sorted (omega arith) f.1 at)
 
 -- the sums at a cycle between an event and the next one
 record SumsAt (events : List Event) (begun ended d : ℕ) : Type 0 where
@@ -71,18 +43,12 @@ record SumsAt (events : List Event) (begun ended d : ℕ) : Type 0 where
 
 sums_at : (events : List Event) (i begun ended d : ℕ) (e : Event) → IsNonDecreasingBy (λ (e : Event). e.cycle) events → slice_get events i ≡ Some e → begun ≡ sum_by (λ (e : Event). e.begins) (take (i + 1) events) → ended ≡ sum_by (λ (e : Event). e.ends) (take (i + 1) events) → e.cycle ≤ d → ((f : Event) → slice_get events (i + 1) ≡ Some f → d < f.cycle) → SumsAt events begun ended d
 sums_at events i begun ended d e sorted at begun_is ended_is from before = record {
-  begun_is = sum_to (λ (e : Event). e.begins) events (i + 1) d first later ∙ sym begun_is;
-  ended_is = sum_to (λ (e : Event). e.ends) events (i + 1) d first later ∙ sym ended_is;
+  begun_is = sum_to (λ (e : Event). e.begins) events (i + 1) d first (later_from events (i + 1) d sorted before) ∙ sym begun_is;
+  ended_is = sum_to (λ (e : Event). e.ends) events (i + 1) d first (later_from events (i + 1) d sorted before) ∙ sym ended_is;
 }
   where
     first : (j : ℕ) (x : Event) → j < i + 1 → slice_get events j ≡ Some x → x.cycle ≤ d
     first j x less there = omega (arith, rises events j i x e sorted (omega arith) there at, from)
-
-    later : (j : ℕ) (x : Event) → i + 1 ≤ j → slice_get events j ≡ Some x → d < x.cycle
-    later j x more there =
-        let next : Event = get_or events (i + 1) x in
-        let there' : slice_get events (i + 1) ≡ Some next = slice_get-get_or events (i + 1) x (omega (arith, slice_get_within events j x there)) in
-        omega (arith, before next there', rises events (i + 1) j next x sorted more there' there)
 
 -- one event more: either others of its cycle follow, or the sums aren't too high
 pub one_summed : (events : List Event) (most i begun ended begun' ended' : ℕ) (d : Event) → IsNonDecreasingBy (λ (e : Event). e.cycle) events → i < length events → IsSummed events most i begun ended → begun' ≡ begun + (get_or events i d).begins → ended' ≡ ended + (get_or events i d).ends → (get_or events i d).begins ≤ 10 ^ 9 → (get_or events i d).ends ≤ 10 ^ 9 → (IsLastOf events i → begun' ≤ ended' + most) → IsSummed events most (i + 1) begun' ended'

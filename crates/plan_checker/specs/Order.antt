@@ -11,3 +11,7 @@ AreInOrder placed earlier p =
 
 abbrev pub last_end : List PlacedTest → ℕ
 last_end placed = greatest (map (λ (j : PlacedTest). j.end) placed)
+
+-- tests at two places are in order
+abbrev pub IsInOrderAt : List PlacedTest → ℕ × ℕ → Type 0
+IsInOrderAt placed e = (a b : PlacedTest) → slice_get placed e.0 ≡ Some a → slice_get placed e.1 ≡ Some b → a.end ≤ b.start

@@ -25,6 +25,6 @@ pub record IsLoad (limits : LimitsValue) (placed : List PlacedTest) (profiles : 
   pub steps : (i : ℕ) (j : PlacedTest) → slice_get placed i ≡ Some j → HasSmallSteps limits j
   pub limit : most ≤ 10 ^ 9
 
--- the same of the load that the code has
+-- a load as the code has it
 abbrev pub IsSoundLoad : ProfiledTests → Type 0
 IsSoundLoad load = IsLoad (limits_value load.limits.now) load.placed.now load.profiles.now load.most

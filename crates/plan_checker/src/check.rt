@@ -1,222 +1,138 @@
-//! The checker's room and its public call.
+//! The checker's room and its public call that takes no memory.
 
-ghost use Rattle.std.specs.Prelude.{◌≡◌, ℕ, ◌+◌, ◌≤◌, None, OnOk, IfOk, IfErr, IfSome, IsOk, length, vec_capacity};
-ghost use Rattle.std.specs.List.{All, filter};
+ghost use Rattle.std.specs.Prelude.{◌≡◌, ℕ, ◌≤◌, OnOk, IfOk, IfErr, IsOk, length};
+ghost use Rattle.std.specs.List.{All};
 ghost use Rattle.soc_model.specs.declared.TestId.{TestId};
-ghost use Rattle.soc_model.specs.Chips.{SocValue, soc_value, is_live, live_tests};
+ghost use Rattle.soc_model.specs.Chips.{SocValue, soc_value};
 ghost use Rattle.soc_model.specs.SoundChips.{IsSoundChip};
 ghost use Rattle.plan_model.specs.declared.TheConstants.{START_MOST};
 ghost use Rattle.plan_model.specs.Views.{limits_value, plan_value};
 ghost use Rattle.plan_model.specs.Faults.{IsFault, IsFaultless};
 ghost use Rattle.plan_model.specs.Right.{IsRight};
-ghost use Rattle.plan_model.specs.Rules.{IsBound};
+ghost use Rattle.plan_model.specs.Rules.{IsBound, live_ids};
 ghost use Rattle.plan_model.specs.Runs.{Content};
 ghost use Rattle.plan_model.specs.SoundLimits.{IsSoundLimits};
 ghost use Rattle.indexmap.specs.IndexSet.{keys, spare};
 ghost use Rattle.plan_checker.specs.FaultValues.{fault_value};
-ghost use Rattle.plan_checker.specs.Room.{HasRoom, HasPlacedRoom, HasRuleRoom};
+ghost use Rattle.plan_checker.specs.Named.{FindsTests};
+ghost use Rattle.plan_checker.specs.Room.{HasNamedRoomFor, HasRoom, HasRoomFor, HoldsPlaced, StaysNamedRoom, StaysRoom};
 
 use crate::PlanFault;
-use crate::events::EVENTS_EACH;
-use crate::lookups::module_count;
-use crate::meetings::{Begin, NO_BEGIN};
-use crate::placed::NO_TEST;
-use crate::starts::NO_START;
+use crate::named::{TestNames, fill_names};
+use crate::space::{CheckSizes, PlanRooms, chip_sizes, plan_rooms};
 use crate::verdict::check_rules;
-use bound_certificate::{BoundScratch, check_bound};
+use bound_certificate::check_bound;
 use indexmap::IndexSet;
-use live_tests::PlacedTest;
-use outside::{NoMemory, both};
-use plan_model::{Limits, Plan, WIRES_MOST, faults_are_exact, good_plans_run_right};
-use power_events::Event;
-use soc_model::{Soc, Test, TestId, live, module_at};
-use std::alloc::{AllocError, Global};
+use outside::NoMemory;
+use plan_model::{Limits, Plan, faults_are_exact, good_plans_run_right};
+use soc_model::{Soc, TestId};
+use std::alloc::Global;
 use std::marker::Model;
 
-/// What a check of the rules fills: lists that are as long as the chip has modules or live tests, and sets with room for
-/// what they take.
+/// What a check fills that takes no memory.
 #[derive(Drop)]
-pub(crate) struct Rooms {
-    /// For each module the place of its bus.
-    pub(crate) marks: Vec<usize>,
-    /// The pairs of a module and a mode that have a wrapper, in the order of the plan.
-    pub(crate) wrappers: IndexSet<(u64, bool)>,
+struct NamedRooms {
     /// The names of the live tests, in the order of the chip.
-    pub(crate) names: IndexSet<TestId>,
-    /// The start of each live test, in the same order.
-    pub(crate) starts: Vec<u64>,
-    /// What the placed tests fill.
-    pub(crate) placed: PlacedRooms,
-}
-
-/// What the tests fill once their buses, wrappers and starts have passed.
-#[derive(Drop)]
-pub(crate) struct PlacedRooms {
-    /// For each module the place of its parent.
-    pub(crate) parents: Vec<usize>,
-    /// The live tests as the plan places them, in the order of the chip.
-    pub(crate) tests: Vec<PlacedTest>,
-    /// Where they begin, by their starts.
-    pub(crate) begins: Vec<Begin>,
-    /// The latest ends of the tests that a pass over the begins has seen, for each bus or each module.
-    pub(crate) ends: Vec<u64>,
-    /// For each test the place of its profile in the limits.
-    pub(crate) profiles: Vec<usize>,
-    /// What the tests begin and end to draw, by cycles.
-    pub(crate) events: Vec<Event>,
+    names: IndexSet<TestId>,
+    /// Room for the rules and the certificate.
+    plan: PlanRooms,
 }
 
 /// Room for checking plans of a chip. Its model is the number of modules, of pairs of a module and a mode, and of live
 /// tests that there is room for.
 #[derive(Drop)]
 pub struct Scratch {
-    /// Room for the rules.
-    rooms: Rooms,
-    /// Room for the list of the certificate.
-    bound: BoundScratch,
+    rooms: NamedRooms,
 }
 
 impl Model for Scratch {
-    ghost use Rattle.std.specs.Prelude.{◌≡◌, ◌+◌, ◌*◌, ◌≤◌, length, vec_capacity};
-    ghost use Rattle.plan_checker.specs.declared.events.TheConstants.{EVENTS_EACH};
-    ghost use Rattle.plan_model.specs.declared.TheConstants.{WIRES_MOST};
-    ghost use Rattle.indexmap.specs.IndexSet.{keys, spare};
-    ghost use Rattle.plan_checker.specs.Room.{RoomValue};
+    ghost use Rattle.plan_checker.specs.Room.{IsNamedRoom, RoomValue, room_value};
 
     ghost Value = { RoomValue };
 
-    ghost view = { λ s. record {
-      modules = length s.rooms.marks.items;
-      pairs = length (keys s.rooms.wrappers) + spare s.rooms.wrappers;
-      tests = length s.rooms.placed.tests.items;
-    } };
+    ghost view = { λ s. room_value s.rooms };
 
-    ghost invariant = { λ s. (length s.rooms.placed.parents.items ≡ length s.rooms.marks.items)
-        × (length s.rooms.placed.profiles.items ≡ length s.rooms.placed.tests.items)
-        × (length s.rooms.placed.begins.items ≡ length s.rooms.placed.tests.items)
-        × (length s.rooms.placed.ends.items ≡ length s.rooms.marks.items + WIRES_MOST + 1)
-        × (length s.rooms.placed.tests.items * EVENTS_EACH ≤ vec_capacity s.rooms.placed.events)
-        × (length s.rooms.starts.items ≡ length s.rooms.placed.tests.items)
-        × (length s.rooms.placed.tests.items ≤ length (keys s.rooms.names) + spare s.rooms.names) };
-}
-
-/// The number of live tests of a list.
-fn live_in(tests: &[Test]) -> usize
-    ensures { result ≡ length (filter is_live tests.now) }
-{
-    tests.iter().filter(|test| live(test)).count()
-}
-
-/// The number of live tests of the chip. None comes only where it passes its type.
-fn live_count(soc: &Soc) -> Option<usize>
-    ensures { IfSome result (λ count. count ≡ length (live_tests (soc_value soc.now))) }
-{
-    let mut count: usize = 0;
-    for place in 0..module_count(soc) {
-        count = count.checked_add(live_in(&module_at(soc, place).tests))?;
-    }
-    Some(count)
-}
-
-/// Room for the placed tests of a chip of `modules` modules and `tests` live tests.
-fn placed_rooms(alloc: Global, modules: usize, tests: usize) -> Result<PlacedRooms, AllocError>
-    ensures { IfOk result (HasPlacedRoom modules tests) }
-{
-    let Some(slots) = modules.checked_add(WIRES_MOST as usize + 1) else {
-        return Err(AllocError);
-    };
-    let Some(all_events) = tests.checked_mul(EVENTS_EACH) else {
-        return Err(AllocError);
-    };
-    let places = both(
-        Vec::from_elem(alloc, 0, modules),
-        Vec::from_elem(alloc, 0, slots),
-    );
-    let lists = both(
-        Vec::from_elem(alloc, NO_TEST, tests),
-        Vec::from_elem(alloc, NO_BEGIN, tests),
-    );
-    let power = both(
-        Vec::from_elem(alloc, 0, tests),
-        Vec::with_capacity(alloc, all_events),
-    );
-    let ((parents, ends), ((tests, begins), (profiles, events))) = both(
-        places,
-        both(lists, power),
-    )?;
-    Ok(PlacedRooms {
-        parents,
-        tests,
-        begins,
-        ends,
-        profiles,
-        events,
-    })
-}
-
-/// Room for the rules of `modules` modules, `pairs` pairs of a module and a mode, and `tests` live tests.
-fn rule_rooms(
-    alloc: Global,
-    modules: usize,
-    pairs: usize,
-    tests: usize,
-) -> Result<Rooms, AllocError>
-    ensures { IfOk result (HasRuleRoom modules pairs tests) }
-{
-    let lists = both(
-        Vec::from_elem(alloc, 0, modules),
-        Vec::from_elem(alloc, NO_START, tests),
-    );
-    let sets = both(
-        IndexSet::with_capacity(alloc, pairs),
-        IndexSet::with_capacity(alloc, tests),
-    );
-    let (placed, ((marks, starts), (wrappers, names))) = both(
-        placed_rooms(alloc, modules, tests),
-        both(lists, sets),
-    )?;
-    Ok(Rooms {
-        marks,
-        wrappers,
-        names,
-        starts,
-        placed,
-    })
+    ghost invariant = { λ s. IsNamedRoom s.rooms };
 }
 
 impl Scratch {
-    /// Room for `modules` modules, `pairs` pairs of a module and a mode, and `tests` live tests.
-    fn sized(
-        alloc: Global,
-        modules: usize,
-        pairs: usize,
-        tests: usize,
-        bound: BoundScratch,
-    ) -> Result<Scratch, NoMemory>
-        ensures { IfOk result (λ room. (room.modules ≡ modules) × (pairs ≤ room.pairs) × (room.tests ≡ tests)) }
+    /// Room for a plan of a chip of these sizes.
+    fn sized(alloc: Global, sizes: &CheckSizes, plan: &Plan) -> Result<Scratch, NoMemory>
+        ensures { IfOk result (λ room. (room.modules ≡ sizes.now.modules) × (sizes.now.pairs ≤ room.pairs)
+            × (room.tests ≡ sizes.now.tests)) }
     {
-        let Ok(rooms) = rule_rooms(alloc, modules, pairs, tests) else {
+        let plan = plan_rooms(alloc, sizes, plan)?;
+        let Ok(names) = IndexSet::with_capacity(alloc, sizes.tests) else {
             // dropped by a call: the end of the scope would drop each of its parts, and be proved for each
-            drop(bound);
+            drop(plan);
             return Err(NoMemory);
         };
-        Ok(Scratch { rooms, bound })
+        Ok(Scratch {
+            rooms: NamedRooms { names, plan },
+        })
     }
 
     /// Room for this chip and this plan, the list of its certificate included.
     pub fn new(alloc: Global, soc: &Soc, plan: &Plan) -> Result<Scratch, NoMemory>
         ensures { IfOk result (HasRoom (soc_value soc.now)) }
     {
-        let modules = module_count(soc);
-        let Some(pairs) = modules.checked_mul(2) else {
+        let Some(sizes) = chip_sizes(soc) else {
             return Err(NoMemory);
         };
-        let Some(tests) = live_count(soc) else {
-            return Err(NoMemory);
-        };
-        let bound = BoundScratch::new(alloc, &plan.bound)?;
-        Scratch::sized(alloc, modules, pairs, tests, bound)
+        Scratch::sized(alloc, &sizes, plan)
     }
+}
+
+/// Whether the plan is good and its certificate accepted; then the room holds what it says by place. Else the fault that shows first.
+pub(crate) fn check_all(
+    soc: &Soc,
+    limits: &Limits,
+    plan: &Plan,
+    names: &TestNames<'_>,
+    room: &mut PlanRooms,
+) -> Result<(), PlanFault>
+    requires sound { IsSoundChip (soc_value soc.now) }
+    requires limits { IsSoundLimits (soc_value soc.now) (limits_value limits.now) }
+    requires early { All (λ (s : TestId × ℕ). s.1 ≤ START_MOST) plan.now.starts.items }
+    requires named { FindsTests limits.now.before.items (live_ids (soc_value soc.now)) names.now }
+    requires room { HasRoomFor (soc_value soc.now) room.old.rules }
+    ensures ok { OnOk result (IsFaultless (soc_value soc.now) (limits_value limits.now) (plan_value plan.now)) }
+    ensures fault { IfErr result (λ f. IsFault (soc_value soc.now) (limits_value limits.now) (plan_value plan.now) (fault_value f)) }
+    ensures exact { IsFaultless (soc_value soc.now) (limits_value limits.now) (plan_value plan.now) → IsOk result }
+    ensures bound { OnOk result (IsBound (soc_value soc.now) (limits_value limits.now) (plan_value plan.now).bound.cycles) }
+    ensures placed { OnOk result (HoldsPlaced (soc_value soc.now) (plan_value plan.now) room.new.rules.placed) }
+    ensures room { StaysRoom room.old.rules room.new.rules }
+{
+    faults_are_exact();
+    match check_rules(soc, limits, plan, names, &mut room.rules) {
+        Some(fault) => Err(fault),
+        None => match check_bound(soc, limits, &plan.bound, &mut room.bound) {
+            Ok(()) => Ok(()),
+            Err(fault) => Err(PlanFault::Bound(fault)),
+        },
+    }
+}
+
+/// What [`check_all`] answers, by a set of the names, which it fills.
+fn check_listed(
+    soc: &Soc,
+    limits: &Limits,
+    plan: &Plan,
+    room: &mut NamedRooms,
+) -> Result<(), PlanFault>
+    requires sound { IsSoundChip (soc_value soc.now) }
+    requires limits { IsSoundLimits (soc_value soc.now) (limits_value limits.now) }
+    requires early { All (λ (s : TestId × ℕ). s.1 ≤ START_MOST) plan.now.starts.items }
+    requires room { HasNamedRoomFor (soc_value soc.now) room.old }
+    ensures ok { OnOk result (IsFaultless (soc_value soc.now) (limits_value limits.now) (plan_value plan.now)) }
+    ensures fault { IfErr result (λ f. IsFault (soc_value soc.now) (limits_value limits.now) (plan_value plan.now) (fault_value f)) }
+    ensures exact { IsFaultless (soc_value soc.now) (limits_value limits.now) (plan_value plan.now) → IsOk result }
+    ensures bound { OnOk result (IsBound (soc_value soc.now) (limits_value limits.now) (plan_value plan.now).bound.cycles) }
+    ensures room { StaysNamedRoom room.old room.new }
+{
+    fill_names(soc, &mut room.names);
+    let names = TestNames::Listed(&room.names);
+    check_all(soc, limits, plan, &names, &mut room.plan)
 }
 
 /// Whether the plan is good and its certificate accepted. Then it runs right for every content, and no good plan has
@@ -243,38 +159,5 @@ pub fn check_plan(
     ensures serves { (chip : SocValue) → HasRoom chip room.old → HasRoom chip room.new }
 {
     good_plans_run_right();
-    faults_are_exact();
-    match check_rules(soc, limits, plan, &mut room.rooms) {
-        Some(fault) => Err(fault),
-        None => match check_bound(soc, limits, &plan.bound, &mut room.bound) {
-            Ok(()) => Ok(()),
-            Err(fault) => Err(PlanFault::Bound(fault)),
-        },
-    }
-}
-
-/// The fault of a plan that shows first, as [`check_plan`] answers it, over room that is taken for this one plan. `NoMemory` where
-/// there is none, and for no other reason.
-pub fn first_fault(
-    alloc: Global,
-    soc: &Soc,
-    limits: &Limits,
-    plan: &Plan,
-) -> Result<Option<PlanFault>, NoMemory>
-    requires sound { IsSoundChip (soc_value soc.now) }
-    requires limits { IsSoundLimits (soc_value soc.now) (limits_value limits.now) }
-    requires early { All (λ (s : TestId × ℕ). s.1 ≤ START_MOST) plan.now.starts.items }
-    ensures none { IfOk result (λ found. found ≡ None → IsFaultless (soc_value soc.now) (limits_value limits.now) (plan_value plan.now)) }
-    ensures fault { IfOk result (λ found. IfSome found (λ f.
-        IsFault (soc_value soc.now) (limits_value limits.now) (plan_value plan.now) (fault_value f))) }
-    ensures exact { IfOk result (λ found. IsFaultless (soc_value soc.now) (limits_value limits.now) (plan_value plan.now) → found ≡ None) }
-{
-    let mut room = Scratch::new(alloc, soc, plan)?;
-    let checked = check_plan(soc, limits, plan, &mut room);
-    // dropped by a call: an arm below would drop each of its parts, and be proved for each
-    drop(room);
-    match checked {
-        Ok(()) => Ok(None),
-        Err(fault) => Ok(Some(fault)),
-    }
+    check_listed(soc, limits, plan, &mut room.rooms)
 }

@@ -7,6 +7,7 @@
 mod check;
 mod clashes;
 mod events;
+mod judging;
 mod known;
 mod lookups;
 mod meetings;
@@ -15,13 +16,15 @@ mod order;
 mod placed;
 mod places;
 mod power;
+mod space;
 mod starts;
 mod verdict;
 mod widths;
 mod wrappers;
 
 use bound_certificate::BoundFault;
-pub use check::{Scratch, check_plan, first_fault};
+pub use check::{Scratch, check_plan};
+pub use judging::judge_plan;
 use soc_model::TestId;
 
 /// The first rule of good plans that a plan breaks, and what shows that first. Buses go by their places, modules and

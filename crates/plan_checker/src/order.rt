@@ -1,6 +1,7 @@
 //! Precedences, and the cycles that a plan says it takes.
 
-ghost use Rattle.std.specs.Prelude.{◌≡◌, [], IsTrue, false, Some};
+ghost use Rattle.std.specs.Prelude.{◌≡◌, ℕ, ◌<◌, [], IsTrue, false, length};
+ghost use Rattle.std.specs.List.{All, flat_map};
 ghost use Rattle.soc_model.specs.declared.TestId.{TestId};
 ghost use Rattle.soc_model.specs.Chips.{SocValue};
 ghost use Rattle.plan_model.specs.Plans.{PlanValue, LimitsValue};
@@ -8,15 +9,17 @@ ghost use Rattle.plan_model.specs.Rules.{Precedences, Cycles};
 ghost use Rattle.live_tests.specs.declared.placed.PlacedTest.{PlacedTest};
 ghost use Rattle.live_tests.specs.Placed.{placed_tests};
 ghost use Rattle.indexmap.specs.IndexSet.{keys};
-ghost use Rattle.live_tests.specs.Names.{AllDiffer};
-ghost use Rattle.plan_checker.specs.Named.{names_of};
+ghost use Rattle.live_tests.specs.Names.{AllDiffer, places_of};
+ghost use Rattle.plan_model.specs.Views.{limits_value};
+ghost use Rattle.plan_checker.specs.Named.{FindsTests, names_of};
 ghost use Rattle.plan_checker.specs.Stages.{IsStage};
-ghost use Rattle.plan_checker.specs.Order.{AreInOrder, last_end};
+ghost use Rattle.plan_checker.specs.Order.{AreInOrder, IsInOrderAt, last_end};
 
 use crate::PlanFault;
-use crate::named::test_named;
+use crate::named::{TestNames, test_at, test_named};
 use indexmap::IndexSet;
 use live_tests::PlacedTest;
+use plan_model::Limits;
 use soc_model::TestId;
 
 /// Whether the first test has ended as the second starts, where both are live.
@@ -35,8 +38,8 @@ fn in_order(placed: &[PlacedTest], names: &IndexSet<TestId>, first: TestId, seco
     }
 }
 
-/// The precedences of the limits against the placed tests of a plan.
-pub(crate) fn check_before(
+/// The precedences, by the names of their tests, against the placed tests of a plan.
+fn check_named(
     before: &[(TestId, TestId)],
     placed: &[PlacedTest],
     names: &IndexSet<TestId>,
@@ -52,6 +55,53 @@ pub(crate) fn check_before(
         }
     }
     None
+}
+
+/// Whether the test at the first place has ended as the one at the second starts.
+fn in_order_at(placed: &[PlacedTest], first: usize, second: usize) -> bool
+    requires first { first < length placed.now }
+    requires second { second < length placed.now }
+    ensures kept { IsTrue result → IsInOrderAt placed.now (first, second) }
+    ensures broken { result ≡ false → IsInOrderAt placed.now (first, second) → ⊥ }
+{
+    let before = test_at(placed, first);
+    let after = test_at(placed, second);
+    before.end <= after.start
+}
+
+/// The precedences of live tests, by the places of these, against the placed tests of a plan.
+fn check_pairs(pairs: &[(usize, usize)], placed: &[PlacedTest]) -> Option<PlanFault>
+    requires within { All (λ (e : ℕ × ℕ). (e.0 < length placed.now) × (e.1 < length placed.now)) pairs.now }
+    requires apart { AllDiffer (names_of placed.now) }
+    ensures { (soc : SocValue) (limits : LimitsValue) (plan : PlanValue) → placed.now ≡ placed_tests soc plan →
+        pairs.now ≡ flat_map (places_of (names_of placed.now)) limits.before → IsStage soc limits plan Precedences result }
+{
+    for (first, second) in pairs {
+        if !in_order_at(placed, *first, *second) {
+            return Some(PlanFault::Before {
+                a: placed[*first].id,
+                b: placed[*second].id,
+            });
+        }
+    }
+    None
+}
+
+/// The precedences of the limits against the placed tests of a plan.
+pub(crate) fn check_before(
+    limits: &Limits,
+    placed: &[PlacedTest],
+    names: &TestNames<'_>,
+) -> Option<PlanFault>
+    requires named { FindsTests limits.now.before.items (names_of placed.now) names.now }
+    requires apart { AllDiffer (names_of placed.now) }
+    ensures { (soc : SocValue) (plan : PlanValue) → placed.now ≡ placed_tests soc plan →
+        IsStage soc (limits_value limits.now) plan Precedences result }
+{
+    match names {
+        TestNames::Listed(set) => check_named(&limits.before, placed, set),
+        TestNames::Resolved(resolved) => check_pairs(&resolved.precedences, placed),
+    }
 }
 
 /// The greatest end, 0 without tests.

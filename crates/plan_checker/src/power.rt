@@ -1,7 +1,6 @@
 //! What the tests of a plan draw together, against the limit.
 
 ghost use Rattle.std.specs.Prelude.{◌≡◌, ℕ, ◌+◌, ◌*◌, ◌<◌, ◌≤◌, ◌++◌, Some, length, set, slice_get, vec_capacity};
-ghost use Rattle.indexmap.specs.IndexSet.{keys};
 ghost use Rattle.soc_model.specs.Chips.{SocValue};
 ghost use Rattle.plan_model.specs.Plans.{PlanValue};
 ghost use Rattle.plan_model.specs.Rules.{Power};
@@ -11,20 +10,18 @@ ghost use Rattle.plan_checker.specs.Events.{IsFirstOver};
 ghost use Rattle.power_events.specs.Events.{test_events, all_events, profile_place};
 ghost use Rattle.live_tests.specs.Placed.{placed_tests};
 ghost use Rattle.live_tests.specs.Names.{AllDiffer};
-ghost use Rattle.plan_checker.specs.Named.{names_of};
+ghost use Rattle.plan_checker.specs.Named.{ids_of, names_of};
 ghost use Rattle.plan_checker.specs.Power.{AreProfiles, IsLoad, IsSoundLoad};
 ghost use Rattle.power_events.specs.Loads.{drawn_by};
 ghost use Rattle.plan_checker.specs.Stages.{IsStage};
 
 use crate::PlanFault;
 use crate::events::{EVENTS_EACH, Excess, first_excess};
-use crate::named::{place_named, test_at};
+use crate::named::{TestNames, place_named, test_at};
 use crate::places::clear_marks;
-use indexmap::IndexSet;
 use live_tests::PlacedTest;
 use plan_model::{Limits, Profile};
 use power_events::{Event, put_steps, sort_events};
-use soc_model::TestId;
 
 /// The placed tests of a plan, and for each the place of its profile in the limits.
 #[derive(Clone, Copy, Drop)]
@@ -48,10 +45,10 @@ fn write_place(profiles: &mut [usize], test: usize, profile: usize)
 pub(crate) fn fill_profiles(
     limits: &Limits,
     placed: &[PlacedTest],
-    names: &IndexSet<TestId>,
+    names: &TestNames<'_>,
     profiles: &mut [usize],
 )
-    requires named { keys names.now ≡ names_of placed.now }
+    requires named { ids_of names.now ≡ names_of placed.now }
     requires apart { AllDiffer (names_of placed.now) }
     requires room { length profiles.old ≡ length placed.now }
     ensures { AreProfiles (limits_value limits.now) placed.now profiles.new }

@@ -54,7 +54,7 @@ stays f n (suc k) steps load are same =
 -- ---- sums over events in order
 
 -- where the first `i` events are up to a cycle and the others come later, the sum is that of the first `i`
-sum_to : (f : Event → ℕ) (events : List Event) (i c : ℕ) → ((j : ℕ) (e : Event) → j < i → slice_get events j ≡ Some e → e.cycle ≤ c) → ((j : ℕ) (e : Event) → i ≤ j → slice_get events j ≡ Some e → c < e.cycle) → sum_by (upto c f) events ≡ sum_by f (take i events)
+pub sum_to : (f : Event → ℕ) (events : List Event) (i c : ℕ) → ((j : ℕ) (e : Event) → j < i → slice_get events j ≡ Some e → e.cycle ≤ c) → ((j : ℕ) (e : Event) → i ≤ j → slice_get events j ≡ Some e → c < e.cycle) → sum_by (upto c f) events ≡ sum_by f (take i events)
 sum_to f [] zero c first later = refl
 sum_to f [] (suc i) c first later = refl
 sum_to f (e ∷ es) zero c first later =
@@ -66,12 +66,19 @@ sum_to f (e ∷ es) (suc i) c first later =
     let rest : sum_by (upto c f) es ≡ sum_by f (take i es) = sum_to f es i c (λ j d less at. first (suc j) d (omega (arith, less)) at) (λ j d more at. later (suc j) d (omega (arith, more)) at) in
     omega (arith, sum_by-cons (upto c f) e es, sum_by-cons f e (take i es), here, rest)
 
-rises : (events : List Event) (i j : ℕ) (d e : Event) → IsNonDecreasingBy (λ (e : Event). e.cycle) events → i ≤ j → slice_get events i ≡ Some d → slice_get events j ≡ Some e → d.cycle ≤ e.cycle
+pub rises : (events : List Event) (i j : ℕ) (d e : Event) → IsNonDecreasingBy (λ (e : Event). e.cycle) events → i ≤ j → slice_get events i ≡ Some d → slice_get events j ≡ Some e → d.cycle ≤ e.cycle
 rises events i j d e sorted order at at' =
     let up : (get_or events i d).cycle ≤ (get_or events j d).cycle = sorted i j d order (slice_get_within events j e at') in
     let left : get_or events i d ≡ d = get_or_from_slice_get events i d d at in
     let right : get_or events j d ≡ e = get_or_from_slice_get events j e d at' in
     omega (arith, up, ap (λ (e : Event). e.cycle) left, ap (λ (e : Event). e.cycle) right)
+
+-- where the event at a place comes after a cycle, those behind it do
+pub later_from : (events : List Event) (n d : ℕ) → IsNonDecreasingBy (λ (e : Event). e.cycle) events → ((g : Event) → slice_get events n ≡ Some g → d < g.cycle) → (j : ℕ) (x : Event) → n ≤ j → slice_get events j ≡ Some x → d < x.cycle
+later_from events n d sorted next j x more there =
+    let g : Event = get_or events n x in
+    let there' : slice_get events n ≡ Some g = slice_get-get_or events n x (omega (arith, slice_get_within events j x there)) in
+    omega (arith, next g there', rises events n j g x sorted more there' there)
 
 abbrev pub begins_of : Event → ℕ
 begins_of e = e.begins
@@ -82,33 +89,18 @@ ends_of e = e.ends
 -- the load at a cycle between an event and the next one
 load_at : (f : ℕ → ℕ) (events : List Event) (i begun ended d : ℕ) (e : Event) → IsNonDecreasingBy (λ (e : Event). e.cycle) events → IsLoad f events → slice_get events i ≡ Some e → begun ≡ sum_by begins_of (take (i + 1) events) → ended ≡ sum_by ends_of (take (i + 1) events) → e.cycle ≤ d → ((g : Event) → slice_get events (i + 1) ≡ Some g → d < g.cycle) → f d + ended ≡ begun
 load_at f events i begun ended d e sorted is at begun_is ended_is from next =
-    let b : begun_by events d ≡ sum_by begins_of (take (i + 1) events) = sum_to begins_of events (i + 1) d first later in
-    let n : ended_by events d ≡ sum_by ends_of (take (i + 1) events) = sum_to ends_of events (i + 1) d first later in
+    let b : begun_by events d ≡ sum_by begins_of (take (i + 1) events) = sum_to begins_of events (i + 1) d first (later_from events (i + 1) d sorted next) in
+    let n : ended_by events d ≡ sum_by ends_of (take (i + 1) events) = sum_to ends_of events (i + 1) d first (later_from events (i + 1) d sorted next) in
     omega (arith, is d, b, n, begun_is, ended_is)
   where
     first : (j : ℕ) (x : Event) → j < i + 1 → slice_get events j ≡ Some x → x.cycle ≤ d
     first j x less there = omega (arith, rises events j i x e sorted (omega arith) there at, from)
 
-    later : (j : ℕ) (x : Event) → i + 1 ≤ j → slice_get events j ≡ Some x → d < x.cycle
-    later j x more there =
-        let g : Event = get_or events (i + 1) x in
-        let there' : slice_get events (i + 1) ≡ Some g = slice_get-get_or events (i + 1) x (omega (arith, slice_get_within events j x there)) in
-        omega (arith, next g there', rises events (i + 1) j g x sorted more there' there)
-
 -- before the first event nothing is drawn
 none_before : (f : ℕ → ℕ) (events : List Event) (d : ℕ) → IsNonDecreasingBy (λ (e : Event). e.cycle) events → IsLoad f events → ((e : Event) → slice_get events 0 ≡ Some e → d < e.cycle) → f d ≡ 0
 none_before f events d sorted is first =
-    let b : begun_by events d ≡ 0 = sum_to begins_of events 0 d (λ j x less. absurd (omega arith)) (λ j x more there. later j x there) in
+    let b : begun_by events d ≡ 0 = sum_to begins_of events 0 d (λ j x less. absurd (omega arith)) (later_from events 0 d sorted first) in
     omega (arith, is d, b)
-  where
-    head_there : (es : List Event) (j : ℕ) (e : Event) → slice_get es j ≡ Some e → (f : Event) × (slice_get es 0 ≡ Some f)
-    head_there [] j e at = absurd cc
-    head_there (f ∷ es) j e at = (f, refl)
-
-    later : (j : ℕ) (x : Event) → slice_get events j ≡ Some x → d < x.cycle
-    later j x there =
-        let h = head_there events j x there in
-        omega (arith, first h.0 h.1, rises events 0 j h.0 x sorted (omega arith) h.1 there)
 
 -- ---- the loop
 

@@ -1,7 +1,7 @@
 use Rattle.std.proofs.Common.{rules, ◌≡◌, Err, subst}
 use Rattle.plan_text.specs.Answers.{PlanRead}
 use Rattle.plan_model.specs.Views.{plan_value}
-use Rattle.commands.proofs.Refusals.{plan_refused, plan_checked, plan_unread, handed_on}
+use Rattle.commands.proofs.Refusals.{plan_refused, plan_checked, plan_unread, handed_on, placed_on}
 use Rattle.commands.proofs.LoadedFiles.{plan_stops, plan_load_checked, plan_load_refused}
 use Rattle.commands.proofs.loading.load_accepted_plan.Goals as goal
 
@@ -17,6 +17,9 @@ returns-in-Ok-clause-loads g c =
 
 pub returns-in-Ok-clause-accepted : goal.returns-in-Ok-clause-accepted
 returns-in-Ok-clause-accepted g c = handed_on _ _ (plan_value c.in-Ok.plan) _ c.accepted_plan.ensures
+
+pub returns-in-Ok-clause-placed : goal.returns-in-Ok-clause-placed
+returns-in-Ok-clause-placed g c = placed_on _ _ (plan_value c.in-Ok.plan) _ c.accepted_plan.ensures
 
 pub returns-clause-loads : goal.returns-clause-loads
 returns-clause-loads g c =

@@ -1,27 +1,22 @@
-use Rattle.std.proofs.Common.{[], refl, get_or, take, arith}
-use Rattle.std.proofs.lemmas.Option.{slice_get-get_or}
-use Rattle.soc_model.specs.declared.TestId.{TestId}
-use Rattle.plan_model.specs.Plans.{planned}
-use Rattle.plan_model.specs.Rules.{InOrder}
-use Rattle.plan_checker.specs.Order.{AreInOrder}
-use Rattle.plan_model.proofs.FirstBreaches.{each_more, each_all, first_here}
-use Rattle.plan_checker.proofs.Ordering.{order_down, order_each}
+use Rattle.std.proofs.Common.{◌∙◌, ap, subst}
+use Rattle.std.specs.List.{flat_map}
+use Rattle.plan_model.specs.Views.{limits_value}
+use Rattle.live_tests.specs.Names.{places_of}
+use Rattle.plan_checker.specs.Named.{FindsTests, names_of}
+use Rattle.plan_checker.proofs.Paired.{places_within}
 use Rattle.plan_checker.proofs.order.check_before.Goals as goal
 
-none : TestId × TestId
-none = (record { «module» = 0; test = 0 }, record { «module» = 0; test = 0 })
+pub check_pairs-requires-clause-within : goal.check_pairs-requires-clause-within
+check_pairs-requires-clause-within c =
+    let found = subst (FindsTests c.args.limits.now.before.items (names_of c.args.placed.now)) c.in-Resolved.is c.requires.named in
+    places_within c.args.placed.now c.args.limits.now.before.items c.deref-in-Resolved.result.now
+    (c.deref-in-Resolved.ensures.value ∙ found.pairs ∙ ap (λ ids. flat_map (places_of ids) c.args.limits.now.before.items) found.named)
 
-pub returns-then-not-in_order : goal.returns-then-not-in_order
-unfolding none
-returns-then-not-in_order c = λ soc limits plan placed before.
-    let at = slice_get-get_or c.args.before.now c.loop-a.a-index none (omega arith) in
-    let each = order_each (planned soc plan) c.args.before.now c.loop-a.a-index (rw placed at c.loop-a.invariant) in
-    let not = rw placed at (c.if-not-in_order.ensures.broken refl) in
-    ((c.loop-a.a-index, rw (← before) (first_here (InOrder (planned soc plan)) c.args.before.now c.loop-a.a-index (get_or c.args.before.now c.loop-a.a-index none) each at (λ h. not (order_down (planned soc plan) (take c.loop-a.a-index c.args.before.now) [] (get_or c.args.before.now c.loop-a.a-index none) h)))), refl)
+pub returns-in-Listed : goal.returns-in-Listed
+returns-in-Listed c = λ soc plan placed. c.check_named.ensures soc (limits_value c.args.limits.now) plan placed c.deref.ensures.value
 
-pub loop-a-preserved : goal.loop-a-preserved
-unfolding none
-loop-a-preserved c = each_more (AreInOrder c.args.placed.now) c.args.before.now c.loop-a.a-index (get_or c.args.before.now c.loop-a.a-index none) c.loop-a.invariant (slice_get-get_or c.args.before.now c.loop-a.a-index none (omega arith)) (c.if-not-in_order.ensures.kept refl)
-
-pub returns : goal.returns
-returns c = λ soc limits plan placed before. rw (← before) (each_all (InOrder (planned soc plan)) c.args.before.now c.loop-a.a-index (omega arith) (order_each (planned soc plan) c.args.before.now c.loop-a.a-index (rw placed at c.loop-a.invariant)))
+pub returns-in-Resolved : goal.returns-in-Resolved
+returns-in-Resolved c = λ soc plan placed.
+    let found = subst (FindsTests c.args.limits.now.before.items (names_of c.args.placed.now)) c.in-Resolved.is c.requires.named in
+    c.check_pairs.ensures soc (limits_value c.args.limits.now) plan placed
+    (c.deref-in-Resolved.ensures.value ∙ found.pairs ∙ ap (λ ids. flat_map (places_of ids) c.args.limits.now.before.items) found.named)

@@ -3,12 +3,12 @@ use Rattle.std.proofs.lemmas.Bool.{lt-ltb}
 use Rattle.std.proofs.lemmas.List.{take_all, take_more_set, length-append}
 use Rattle.std.proofs.lemmas.Option.{slice_get-get_or}
 use Rattle.soc_model.specs.declared.Test.{Test}
-use Rattle.soc_model.specs.Chips.{is_live, module_value}
+use Rattle.soc_model.specs.Chips.{is_live, module_value, soc_value}
 use Rattle.plan_model.specs.Plans.{planned_test}
 use Rattle.plan_model.specs.Views.{plan_value}
 use Rattle.live_tests.specs.declared.placed.PlacedTest.{PlacedTest}
-use Rattle.live_tests.specs.Placed.{placed_in, placed_of}
-use Rattle.plan_checker.proofs.Filling.{front_left, front_taken, passing_room, passing_within}
+use Rattle.live_tests.specs.Placed.{placed_in, placed_of, placed_tests}
+use Rattle.plan_checker.proofs.Filling.{front_left, front_taken, passing_at, passing_room, passing_within}
 use Rattle.plan_checker.proofs.placed.fill_module.Goals as goal
 
 none : Test
@@ -17,6 +17,17 @@ none = record { number = 0; scan = false; tam = false; patterns = 0; power = 0 }
 pub placed_of-requires-clause-of_module : goal.placed_of-requires-clause-of_module
 unfolding none
 placed_of-requires-clause-of_module c = (c.loop-test.test-index, ap (λ (l : List Test). slice_get l c.loop-test.test-index) (sym c.deref-test-items.ensures.value) ∙ slice_get-get_or c.deref-test-items.result.now c.loop-test.test-index none (omega arith))
+
+pub placed_of-requires-clause-called : goal.placed_of-requires-clause-called
+unfolding none
+placed_of-requires-clause-called c =
+    let m = module_value c.args.«module».now in
+    let plan = plan_value c.args.from.now.plan.now in
+    let t = get_or c.deref-test-items.result.now c.loop-test.test-index none in
+    let at : slice_get m.tests c.loop-test.test-index ≡ Some t = ap (λ (l : List Test). slice_get l c.loop-test.test-index) (sym c.deref-test-items.ensures.value) ∙ slice_get-get_or c.deref-test-items.result.now c.loop-test.test-index none c.loop-test-test.true in
+    let live : is_live t ≡ true = lt-ltb 0 _ (omega (arith, c.if-test-eq0.false)) in
+    ap (slice_get (placed_tests (soc_value c.args.from.now.soc.now) plan)) c.loop-test.invariant.count
+    ∙ c.requires.first (length (placed_in plan c.args.place m (take c.loop-test.test-index m.tests))) (placed_of (planned_test plan c.args.place m t)) (passing_at (λ (t : Test). placed_of (planned_test plan c.args.place m t)) is_live m.tests c.loop-test.test-index t at live)
 
 pub bounds-placed-next : goal.bounds-placed-next
 unfolding none

@@ -4,7 +4,7 @@ use Rattle.soc_model.specs.Chips.{soc_value, module_value}
 use Rattle.plan_model.specs.Views.{plan_value}
 use Rattle.live_tests.specs.Placed.{placed_tests}
 use Rattle.live_tests.proofs.Placing.{module_more, modules_all, placed_are}
-use Rattle.plan_checker.proofs.Filling.{module_room}
+use Rattle.plan_checker.proofs.Filling.{module_at, module_room}
 use Rattle.plan_checker.proofs.placed.fill_tests.Goals as goal
 
 pub loop-place-init : goal.loop-place-init
@@ -16,6 +16,18 @@ fill_module-next-requires-clause-room c =
     let plan = plan_value c.args.from.now.plan.now in
     let room = module_room plan (take c.loop-place.next c.loop-place.placed) (placed_tests soc plan) c.loop-place.place soc.modules (module_value c.module_at.result.now) c.module_at.ensures c.loop-place.invariant.filled in
     omega (arith, room, length-take-le c.loop-place.next c.loop-place.placed c.loop-place.invariant.within, c.requires.room, c.loop-place.auto.placed)
+
+pub wrappers_at-wrappers-requires : goal.wrappers_at-wrappers-requires
+wrappers_at-wrappers-requires c = omega (arith, c.loop-place-test.true, c.module_count-place-end.ensures, c.requires.walked.long)
+
+pub fill_module-next-requires-clause-wrappers : goal.fill_module-next-requires-clause-wrappers
+fill_module-next-requires-clause-wrappers c = c.requires.walked.are c.loop-place.place (module_value c.module_at.result.now) c.wrappers_at-wrappers.result c.module_at.ensures c.wrappers_at-wrappers.ensures
+
+pub fill_module-next-requires-clause-first : goal.fill_module-next-requires-clause-first
+fill_module-next-requires-clause-first c =
+    let soc = soc_value c.args.from.now.soc.now in
+    let plan = plan_value c.args.from.now.plan.now in
+    module_at plan (take c.loop-place.next c.loop-place.placed) (placed_tests soc plan) c.loop-place.place c.loop-place.next soc.modules (module_value c.module_at.result.now) c.module_at.ensures c.loop-place.invariant.filled (length-take-le c.loop-place.next c.loop-place.placed c.loop-place.invariant.within)
 
 pub loop-place-preserved : goal.loop-place-preserved
 loop-place-preserved c =

@@ -1,17 +1,20 @@
-use Rattle.std.proofs.Common.{◌≡◌, ◌∙◌, ap, length, arith}
-use Rattle.indexmap.specs.IndexSet.{keys}
+use Rattle.std.proofs.Common.{◌≡◌, ◌∙◌, List, ap, length, refl, subst, sym, arith}
+use Rattle.soc_model.specs.declared.TestId.{TestId}
 use Rattle.soc_model.specs.Chips.{soc_value}
+use Rattle.plan_model.specs.Rules.{live_ids}
+use Rattle.live_tests.specs.Placed.{AreWalked}
+use Rattle.plan_checker.specs.Named.{FindsTests, ids_of}
 use Rattle.plan_model.specs.Views.{limits_value, plan_value}
 use Rattle.plan_checker.proofs.Laying.{layout}
 use Rattle.plan_checker.proofs.Loads.{placed_apart, placed_named, load_is}
-use Rattle.plan_checker.proofs.RoomSizes.{with_long}
+use Rattle.plan_checker.proofs.RoomSizes.{with_long, with_same}
 use Rattle.plan_checker.proofs.verdict.check_placed.Goals as goal
 
 pub fill_profiles-requires-clause-named : goal.fill_profiles-requires-clause-named
-fill_profiles-requires-clause-named c = placed_named (soc_value c.args.from.now.soc.now) (plan_value c.args.from.now.plan.now) c.fill_tests.new.placed (keys c.args.from.now.names.now) c.requires.placing.names_are c.fill_tests.ensures
+fill_profiles-requires-clause-named c = placed_named (soc_value c.args.from.now.soc.now) (plan_value c.args.from.now.plan.now) c.fill_tests.new.placed (ids_of c.args.names.now) c.requires.named.named c.fill_tests.ensures
 
 pub check_ends-requires-clause-named : goal.check_ends-requires-clause-named
-check_ends-requires-clause-named c = placed_named (soc_value c.args.from.now.soc.now) (plan_value c.args.from.now.plan.now) c.fill_tests.new.placed (keys c.args.from.now.names.now) c.requires.placing.names_are c.fill_tests.ensures
+check_ends-requires-clause-named c = subst (λ (ids : List TestId). FindsTests c.args.limits.now.before.items ids c.args.names.now) (placed_named (soc_value c.args.from.now.soc.now) (plan_value c.args.from.now.plan.now) c.fill_tests.new.placed (live_ids (soc_value c.args.from.now.soc.now)) refl c.fill_tests.ensures) c.requires.named
 
 pub check_meetings-requires : goal.check_meetings-requires
 check_meetings-requires c =
@@ -36,6 +39,7 @@ check_ends-requires-clause-apart c = placed_apart (soc_value c.args.from.now.soc
 pub returns-in-None-clause-long : goal.returns-in-None-clause-long
 returns-in-None-clause-long c = record {
   parents = with_long c.args.rooms.now.parents c.fill_parents.new.parents (c.fill_parents.auto.parents ∙ ap length c.deref_mut-parents.ensures.value);
+  wrappers = with_long c.args.rooms.now.wrappers c.fill_wrappers.new.walked (c.fill_wrappers.auto.walked ∙ ap length c.deref_mut-walked.ensures.value);
   tests = with_long c.args.rooms.now.tests c.fill_tests.new.placed (c.fill_tests.auto.placed ∙ ap length c.deref_mut-placed.ensures.value);
   begins = with_long c.args.rooms.now.begins c.fill_begins.new.begins (c.fill_begins.auto.begins ∙ ap length c.deref_mut-begins.ensures.value);
   ends = with_long c.args.rooms.now.ends c.check_meetings.new.ends (c.check_meetings.auto.ends ∙ ap length c.deref_mut.ensures.value);
@@ -45,6 +49,7 @@ returns-in-None-clause-long c = record {
 pub returns-in-Some-clause-long : goal.returns-in-Some-clause-long
 returns-in-Some-clause-long c = record {
   parents = with_long c.args.rooms.now.parents c.fill_parents.new.parents (c.fill_parents.auto.parents ∙ ap length c.deref_mut-parents.ensures.value);
+  wrappers = with_long c.args.rooms.now.wrappers c.fill_wrappers.new.walked (c.fill_wrappers.auto.walked ∙ ap length c.deref_mut-walked.ensures.value);
   tests = with_long c.args.rooms.now.tests c.fill_tests.new.placed (c.fill_tests.auto.placed ∙ ap length c.deref_mut-placed.ensures.value);
   begins = with_long c.args.rooms.now.begins c.fill_begins.new.begins (c.fill_begins.auto.begins ∙ ap length c.deref_mut-begins.ensures.value);
   ends = with_long c.args.rooms.now.ends c.check_meetings.new.ends (c.check_meetings.auto.ends ∙ ap length c.deref_mut.ensures.value);
@@ -53,3 +58,15 @@ returns-in-Some-clause-long c = record {
 
 pub check_ends-requires-clause-space : goal.check_ends-requires-clause-space
 check_ends-requires-clause-space c = rw (c.fill_tests.auto.placed ∙ ap length c.deref_mut-placed.ensures.value) c.requires.events_fit
+
+pub returns-in-Some-clause-tests : goal.returns-in-Some-clause-tests
+returns-in-Some-clause-tests c = with_same c.args.rooms.now.tests c.fill_tests.new.placed (c.fill_tests.auto.placed ∙ ap length c.deref_mut-placed.ensures.value) ∙ c.fill_tests.ensures
+
+pub returns-in-Some-clause-walked : goal.returns-in-Some-clause-walked
+returns-in-Some-clause-walked c = subst (AreWalked (soc_value c.args.from.now.soc.now) (plan_value c.args.from.now.plan.now)) (sym (with_same c.args.rooms.now.wrappers c.fill_wrappers.new.walked (c.fill_wrappers.auto.walked ∙ ap length c.deref_mut-walked.ensures.value))) c.fill_wrappers.ensures
+
+pub returns-in-None-clause-tests : goal.returns-in-None-clause-tests
+returns-in-None-clause-tests c = with_same c.args.rooms.now.tests c.fill_tests.new.placed (c.fill_tests.auto.placed ∙ ap length c.deref_mut-placed.ensures.value) ∙ c.fill_tests.ensures
+
+pub returns-in-None-clause-walked : goal.returns-in-None-clause-walked
+returns-in-None-clause-walked c = subst (AreWalked (soc_value c.args.from.now.soc.now) (plan_value c.args.from.now.plan.now)) (sym (with_same c.args.rooms.now.wrappers c.fill_wrappers.new.walked (c.fill_wrappers.auto.walked ∙ ap length c.deref_mut-walked.ensures.value))) c.fill_wrappers.ensures

@@ -17,7 +17,6 @@ check_placed-requires-clause-placing c = record {
   wrapped = (c.in-None-check_tests.ensures.verdict Wrappers (omega arith)).1;
   proper = c.in-None-check_tests.ensures.verdict Proper (omega arith);
   early = c.requires.early;
-  names_are = c.in-None-check_tests.ensures.named;
   started = (c.in-None-check_tests.ensures.verdict Starts (omega arith)).1;
   starts_are = c.in-None-check_tests.ensures.started;
   pairs_are = c.in-None-check_tests.ensures.paired;

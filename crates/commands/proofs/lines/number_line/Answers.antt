@@ -2,7 +2,7 @@ use Rattle.std.proofs.Common.{arith, IsTrue}
 use Rattle.std.proofs.lemmas.Grind.{common_steps}
 use Rattle.commands.specs.Texts.{no_feed}
 use Rattle.commands.proofs.LineFacts.{line_from}
-use Rattle.commands.proofs.lines.numbered.Goals as goal
+use Rattle.commands.proofs.lines.number_line.Goals as goal
 
 pub returns-clause-line : goal.returns-clause-line
 returns-clause-line c =

@@ -1,6 +1,6 @@
 use Rattle.indexmap.specs.IndexSet.{keys}
 use Rattle.plan_checker.proofs.NamesApart.{name_found, name_missing}
-use Rattle.plan_checker.proofs.named.place_named.Goals as goal
+use Rattle.plan_checker.proofs.named.listed_place.Goals as goal
 
 pub returns-clause-found : goal.returns-clause-found
 returns-clause-found c = name_found c.args.id (keys c.args.names.now) c.get_index_of.result c.get_index_of.ensures.index

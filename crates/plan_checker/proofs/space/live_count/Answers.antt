@@ -3,7 +3,7 @@ use Rattle.std.proofs.lemmas.List.{take_all}
 use Rattle.soc_model.specs.Chips.{ModuleValue, soc_value, module_value, is_live}
 use Rattle.plan_checker.proofs.RoomSizes.{live_more}
 use Rattle.plan_checker.proofs.Loads.{live_tests_are}
-use Rattle.plan_checker.proofs.check.live_count.Goals as goal
+use Rattle.plan_checker.proofs.space.live_count.Goals as goal
 
 pub returns : goal.returns
 returns c =
