@@ -5,16 +5,17 @@ use Rattle.live_tests.specs.declared.neighbours.Neighbours.{Neighbours}
 use Rattle.resource_table.specs.Befores.{listed}
 use Rattle.resource_table.specs.Jobs.{JobValue}
 use Rattle.resource_table.specs.Schedules.{TableValue}
-use Rattle.arch_search.specs.declared.buses.Buses.{Buses}
-use Rattle.arch_search.specs.declared.dealing.DealtModule.{DealtModule}
-use Rattle.arch_search.specs.declared.problem.TimedTests.{TimedTests}
-use Rattle.arch_search.specs.declared.room.ScheduleRoom.{ScheduleRoom}
+use Rattle.arch_schedule.specs.declared.buses.Buses.{Buses}
+use Rattle.bus_changes.specs.declared.dealing.DealtModule.{DealtModule}
+use Rattle.arch_schedule.specs.declared.problem.TimedTests.{TimedTests}
+use Rattle.arch_schedule.specs.declared.room.ScheduleRoom.{ScheduleRoom}
 use Rattle.arch_search.specs.declared.setting.SearchSetting.{SearchSetting}
 use Rattle.arch_search.specs.declared.state.State.{State}
-use Rattle.arch_search.specs.declared.times.Times.{Times}
-use Rattle.arch_search.specs.Problems.{IsProblem, IsStateOf}
+use Rattle.arch_schedule.specs.Problems.{IsProblem}
+use Rattle.arch_search.specs.States.{IsStateOf}
 use Rattle.arch_search.specs.Searches.{IsSearch}
-use Rattle.arch_search.specs.States.{AreBuses, AreAlike, AreTimesOn, IsTaken}
+use Rattle.arch_schedule.specs.Buses.{AreBuses, AreAlike}
+use Rattle.bus_changes.specs.Dealing.{IsTaken}
 
 -- there is a list of what precedes it for each test
 pub before_long : (job : JobValue) (p : TimedTests) (before : List Neighbours) → before ≡ p.before.items → IsProblem job p → length before ≡ length p.tests.items
@@ -48,14 +49,6 @@ state_on p s t state buses alike same = record {
   as_many_tests = ap (λ o. length o.items) same ∙ state.as_many_tests;
   within = subst (λ o. All (λ test. test < length p.tests.items) o.items) (sym same) state.within;
 }
-
--- changes one after the other
-pub alike_then : (a b c : Buses) → AreAlike a b → AreAlike b c → AreAlike a c
-alike_then a b c one other = record { widths = other.widths ∙ one.widths; slots = other.slots ∙ one.slots }
-
--- the cycles of their modules stay
-pub times_alike : (a b : Buses) (t : Times) → AreAlike a b → AreTimesOn a t → AreTimesOn b t
-times_alike a b t alike on = record { times = on.times; wires = on.wires ∙ sym alike.widths; modules = on.modules ∙ sym alike.slots }
 
 -- modules that are taken off the buses of a state
 pub taken_for : (p : TimedTests) (s : State) (taken : List DealtModule) → IsStateOf p s → All (IsTaken (length s.buses.widths.items) (length s.buses.slots.items)) taken → All (IsTaken p.wires (length p.modules.items)) taken

@@ -1,10 +1,4 @@
-pub mod OtherBuses
-pub mod Listing
-pub mod Sent
 pub mod Beginnings
 pub mod Wires
-pub mod Written
 pub mod Searching
-pub mod KindTable
 pub mod Changed
-pub mod Refilled

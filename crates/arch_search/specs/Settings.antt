@@ -1,8 +1,8 @@
 -- What a search goes by.
 use Rattle.resource_table.specs.Jobs.{job_value, IsSoundJob}
 use Rattle.arch_search.specs.declared.setting.SearchSetting.{SearchSetting}
-use Rattle.arch_search.specs.Problems.{IsProblem}
-use Rattle.arch_search.specs.Times.{AreTimesOf}
+use Rattle.arch_schedule.specs.Problems.{IsProblem}
+use Rattle.arch_schedule.specs.Times.{AreTimesOf}
 
 -- a problem of the tests of a job, with the cycles of its modules
 pub record IsSetting (s : SearchSetting) : Type 0 where

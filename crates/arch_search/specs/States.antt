@@ -1,33 +1,10 @@
 -- States of the search.
-use Rattle.std.specs.Prelude.{◌≡◌, ℕ, ◌<◌, ◌≤◌, length}
+use Rattle.std.specs.Prelude.{◌≡◌, ℕ, ◌+◌, ◌<◌, length}
 use Rattle.std.specs.List.{All, sum_by}
-use Rattle.arch_search.specs.declared.buses.Buses.{Buses}
-use Rattle.arch_search.specs.declared.dealing.DealtModule.{DealtModule}
+use Rattle.arch_schedule.specs.declared.buses.Buses.{Buses}
+use Rattle.arch_schedule.specs.declared.problem.TimedTests.{TimedTests}
+use Rattle.arch_schedule.specs.Buses.{AreBuses}
 use Rattle.arch_search.specs.declared.state.State.{State}
-use Rattle.arch_search.specs.declared.times.Times.{Times}
-use Rattle.arch_search.specs.Times.{AreTimes}
-
--- the buses have no more wires together than there are slots, each of which has a load, and each module is on a bus of a slot
-pub record AreBuses (b : Buses) : Type 0 where
-  pub few_wires : sum_by (λ (w : ℕ). w) b.widths.items ≤ length b.widths.items
-  pub within : All (λ slot. slot < length b.widths.items) b.slots.items
-  pub as_many_loads : length b.loads.items ≡ length b.widths.items
-
--- they have as many slots, for as many modules
-pub record AreAlike (a b : Buses) : Type 0 where
-  pub widths : length b.widths.items ≡ length a.widths.items
-  pub slots : length b.slots.items ≡ length a.slots.items
-
--- the cycles of the modules of buses on up to as many wires as there are slots
-pub record AreTimesOn (b : Buses) (t : Times) : Type 0 where
-  pub times : AreTimes t
-  pub wires : t.wires ≡ length b.widths.items
-  pub modules : length t.rows.items ≡ length b.slots.items
-
--- one of `modules` modules, and one of `wires` slots
-pub record IsTaken (wires modules : ℕ) (t : DealtModule) : Type 0 where
-  pub is_module : t.«module» < modules
-  pub is_slot : t.from < wires
 
 -- A state for `wires` wires, `modules` modules with tests over the wires, and `tests` tests. That the order has each test once and
 -- keeps the precedences is found out as its tests are placed.
@@ -37,3 +14,15 @@ pub record IsState (wires modules tests : ℕ) (s : State) : Type 0 where
   pub as_many_modules : length s.buses.slots.items ≡ modules
   pub as_many_tests : length s.order.items ≡ tests
   pub within : All (λ test. test < tests) s.order.items
+
+-- a state for the wires, modules and tests of a problem
+abbrev pub IsStateOf : TimedTests → State → Type 0
+IsStateOf p s = IsState p.wires (length p.modules.items) (length p.tests.items) s
+
+-- buses for the modules of a problem, and the wires that are left of them
+pub record AreFirstBuses (p : TimedTests) (b : Buses) (left : ℕ) : Type 0 where
+  pub within : All (λ k. k < length b.widths.items) b.slots.items
+  pub all_wires : sum_by (λ (w : ℕ). w) b.widths.items + left ≡ length b.widths.items
+  pub as_many_slots : length b.widths.items ≡ p.wires
+  pub as_many_modules : length b.slots.items ≡ length p.modules.items
+  pub as_many_loads : length b.loads.items ≡ length b.widths.items

@@ -6,27 +6,12 @@
 //! wires; modules, tests and buses go by their places.
 #![tactic(auto)]
 
-mod buses;
-mod chains;
-mod changes;
-mod dealing;
-mod draws;
-mod kinds;
-mod moves;
 mod order;
-mod pairs;
-mod problem;
-mod repair;
-mod room;
 mod rounds;
-mod scheduling;
 mod search;
 mod setting;
-mod sorting;
-mod splits;
 mod state;
-mod times;
 mod weighing;
 
-pub use problem::TimedTests;
+pub use arch_schedule::TimedTests;
 pub use search::{Found, Search};

@@ -1,8 +1,8 @@
 //! What the tries of a search are, one after the other: first changes that may not make a state worse, then rounds of changes that
 //! may make it somewhat worse, the less the later in the round. Each round has twice as many tries as the one before it.
-ghost use Rattle.std.specs.Prelude.{◌<◌, ◌≤◌};
+ghost use Rattle.std.specs.Prelude.{◌<◌};
 
-use crate::draws::Draws;
+use bus_changes::Draws;
 
 /// The first tries may make nothing worse: this many, or more where there are many tests.
 const FIRST_DESCENT: u64 = 2_000;

@@ -2,22 +2,18 @@
 ghost use Rattle.std.specs.Prelude.{◌≡◌, ◌≤◌, length, replicate, IfOk};
 ghost use Rattle.std.specs.List.{All};
 ghost use Rattle.resource_table.specs.Jobs.{JobValue, job_value, IsSoundJob};
-ghost use Rattle.arch_search.specs.Problems.{IsProblem, IsStateOf};
+ghost use Rattle.arch_schedule.specs.Problems.{IsProblem};
+ghost use Rattle.arch_search.specs.States.{IsStateOf};
 ghost use Rattle.arch_search.specs.Searches.{IsLent};
-ghost use Rattle.arch_search.specs.States.{IsTaken};
+ghost use Rattle.bus_changes.specs.Dealing.{IsTaken};
 
-use crate::changes::change_buses;
-use crate::dealing::{DEALT_MOST, DealtModule};
-use crate::draws::Draws;
 use crate::order::{change_order, reorder_tests};
-use crate::problem::TimedTests;
-use crate::repair::fits;
-use crate::room::ScheduleRoom;
 use crate::rounds::{NextTry, Rounds, drawn_most};
-use crate::scheduling::zeros;
 use crate::setting::SearchSetting;
 use crate::state::{State, first_state};
 use crate::weighing::{schedule_state, weigh_state};
+use arch_schedule::{ScheduleRoom, TimedTests, zeros};
+use bus_changes::{DEALT_MOST, DealtModule, Draws, change_buses, fits};
 use live_tests::LiveTests;
 use outside::{NoMemory, both};
 use plan_model::Plan;

@@ -1,11 +1,10 @@
 //! What a search goes by: the problem, what binds its schedules, and the cycles of its modules.
 ghost use Rattle.std.specs.Prelude.{◌≡◌, ◌<◌, length, IfOk};
 ghost use Rattle.resource_table.specs.Jobs.{job_value, IsSoundJob};
-ghost use Rattle.arch_search.specs.Problems.{IsProblem};
+ghost use Rattle.arch_schedule.specs.Problems.{IsProblem};
 ghost use Rattle.arch_search.specs.Settings.{IsSetting};
 
-use crate::problem::TimedTests;
-use crate::times::{Times, times_of};
+use arch_schedule::{TimedTests, Times, times_of};
 use outside::NoMemory;
 use resource_table::{Job, JobTest};
 use std::alloc::Global;

@@ -2,13 +2,11 @@
 ghost use Rattle.std.specs.Prelude.{◌≡◌, ℕ, ◌+◌, ◌<◌, length, replicate, IfOk, IfSome};
 ghost use Rattle.std.specs.List.{All, sum_by};
 ghost use Rattle.resource_table.specs.Jobs.{job_value, IsSoundJob};
-ghost use Rattle.arch_search.specs.States.{AreBuses, AreAlike};
-ghost use Rattle.arch_search.specs.Problems.{IsProblem, IsStateOf, AreFirstBuses};
+ghost use Rattle.arch_schedule.specs.Buses.{AreBuses, AreAlike};
+ghost use Rattle.arch_schedule.specs.Problems.{IsProblem};
+ghost use Rattle.arch_search.specs.States.{IsStateOf, AreFirstBuses};
 
-use crate::buses::Buses;
-use crate::problem::TimedTests;
-use crate::scheduling::zeros;
-use crate::sorting::sorted_by;
+use arch_schedule::{Buses, TimedTests, sorted_by, zeros};
 use live_tests::LiveTests;
 use outside::{NoMemory, copied};
 use plan_model::Plan;

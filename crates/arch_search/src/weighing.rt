@@ -2,20 +2,19 @@
 ghost use Rattle.std.specs.Prelude.{◌≡◌, ◌<◌, length};
 ghost use Rattle.std.specs.List.{All};
 ghost use Rattle.resource_table.specs.Schedules.{IsSoundTable};
-ghost use Rattle.arch_search.specs.States.{AreBuses};
-ghost use Rattle.arch_search.specs.Problems.{IsProblem, IsStateOf};
-ghost use Rattle.arch_search.specs.Rooms.{HasRoomFor, AreShort};
+ghost use Rattle.arch_schedule.specs.Buses.{AreBuses};
+ghost use Rattle.arch_schedule.specs.Problems.{IsProblem};
+ghost use Rattle.arch_search.specs.States.{IsStateOf};
+ghost use Rattle.arch_schedule.specs.Rooms.{HasRoomFor, AreShort};
 ghost use Rattle.arch_search.specs.Settings.{IsSetting};
 
-use crate::buses::Buses;
-use crate::chains::{draw_too_much, set_chains};
-use crate::draws::Draws;
 use crate::order::advance_drawn;
-use crate::problem::TimedTests;
-use crate::room::ScheduleRoom;
-use crate::scheduling::{assign_buses, late_bus, place_order};
 use crate::setting::SearchSetting;
 use crate::state::State;
+use arch_schedule::{
+    Buses, ScheduleRoom, TimedTests, assign_buses, draw_too_much, late_bus, place_order, set_chains,
+};
+use bus_changes::Draws;
 use plan_model::START_MOST;
 use resource_table::OwnTable;
 use std::mem;

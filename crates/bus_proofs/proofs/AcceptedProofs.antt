@@ -13,7 +13,8 @@ use Rattle.plan_model.proofs.TurnBounds.{plan_of}
 use Rattle.live_tests.proofs.Placing.{in_live}
 use Rattle.packed_times.specs.Packed.{packed_time}
 use Rattle.exclusions.specs.Exclusions.{Excludes, excludes, least_power}
-use Rattle.bus_proofs.specs.Cases.{root_case, Case, NodeCase}
+use Rattle.leaf_bounds.specs.Cases.{root_case, Case}
+use Rattle.bus_proofs.specs.Cases.{NodeCase}
 use Rattle.bus_proofs.specs.Laws.{AcceptedCasesHaveNoPlan, AcceptedProofsAreBounds, NodesTellTheTree, ProofsHaveOneFault, AcceptedProofsHaveNoFault, LessShowsLess}
 use Rattle.bus_proofs.proofs.ListBounds.{planned_at}
 use Rattle.bus_proofs.proofs.LeafBounds.{IsTimed, SomeWire}
@@ -24,8 +25,9 @@ use Rattle.proof_model.specs.Proofs.{NodeValue, CaseTree, Leaf, Branches, nodes_
 use Rattle.bus_proofs.specs.declared.ProofFault.{ProofFault}
 use Rattle.bus_proofs.specs.declared.ProofFault.TheVariants.{BadList, BadNode, Less}
 use Rattle.plan_model.proofs.LowerTimes.{quotient_up-le}
-use Rattle.bus_proofs.specs.Leaves.{cost_of_all, worth_of_cycle, cycles_shown, leaf_shows}
-use Rattle.bus_proofs.specs.Bounds.{AnyLeafHolds, KeepsNodeAt, NodeHolds, AreEnough, any_leaf_shows, IsFirstLess, HasFault, IsNodeFault, all_cases}
+use Rattle.leaf_bounds.specs.Leaves.{cost_of_all, worth_of_cycle, cycles_shown, leaf_shows}
+use Rattle.leaf_bounds.specs.AnyLeaves.{AnyLeafHolds, any_leaf_shows}
+use Rattle.bus_proofs.specs.Bounds.{KeepsNodeAt, NodeHolds, AreEnough, IsFirstLess, HasFault, IsNodeFault, all_cases}
 
 -- ==== accepted proofs bound every good plan
 

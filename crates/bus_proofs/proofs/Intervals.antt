@@ -5,8 +5,12 @@ use Rattle.std.proofs.lemmas.List.{get_or-map, get_or_append_left, length-append
 use Rattle.std.proofs.lemmas.List.Sums.{sum_by-cons}
 use Rattle.plan_model.specs.Bounds.{sum_below}
 use Rattle.plan_model.proofs.SumsOverCycles.{sum_below-same}
-use Rattle.bus_proofs.specs.Cases.{Interval, interval_of, least_wires, tightened_below, tightened_by, interval, Case, known_ranks, spare, tightened, extended, with_rank, at_most, at_least, narrow, wide, placed_on, placed_off}
+use Rattle.leaf_bounds.specs.declared.widths.Interval.{Interval}
+use Rattle.leaf_bounds.specs.Cases.{interval_of, least_wires, tightened_below, tightened_by, interval, Case, known_ranks, spare, tightened, extended, at_most, at_least, narrow, wide, placed_on, placed_off}
+use Rattle.bus_proofs.specs.Cases.{with_rank}
 use Rattle.std.specs.List.{list_any}
+use Rattle.leaf_bounds.proofs.Trails.{front_length, tight_length}
+use Rattle.leaf_bounds.proofs.PackSteps.{sum_below-first}
 
 -- ==== widths of ranks, as a function, within the intervals of a case
 
@@ -44,20 +48,9 @@ module _ {X : Type 0} (g : X → X) where
   back_kept (x ∷ xs) (suc n) zero d more = absurd (omega arith)
   back_kept (x ∷ xs) (suc n) (suc k) d more = back_kept xs n k d (omega arith)
 
-  pub front_length : (xs : List X) (n : ℕ) → length (map g (take n xs) ++ drop n xs) ≡ length xs
-  front_length [] zero = refl
-  front_length [] (suc n) = refl
-  front_length (x ∷ xs) zero = refl
-  front_length (x ∷ xs) (suc n) = ap suc (front_length xs n)
-
 -- ---- sums of widths
 
 module _ (f : ℕ → ℕ) where
-  pub sum_below-first : (n : ℕ) → sum_below f (suc n) ≡ f 0 + sum_below (λ k. f (suc k)) n
-  unfolding sum_below
-  sum_below-first zero = omega arith
-  sum_below-first (suc n) = omega (arith, sum_below-first n)
-
   -- a term of a sum is at most the sum
   pub term-le : (n k : ℕ) → k < n → f k ≤ sum_below f n
   unfolding sum_below
@@ -128,10 +121,6 @@ module _ (more : ℕ) where
   below_low above (x ∷ xs) zero = refl
   below_low above (x ∷ xs) (suc k) = below_low (min (min x.high (x.low + more)) above) xs k
 
-  below_length : (above : ℕ) (xs : List Interval) → length (tightened_below more above xs) ≡ length xs
-  below_length above [] = refl
-  below_length above (x ∷ xs) = ap suc (below_length (min (min x.high (x.low + more)) above) xs)
-
   below_high : (above : ℕ) (xs : List Interval) (f : ℕ → ℕ) → Falls f → f 0 ≤ above → AreHighs xs f → ((k : ℕ) → k < length xs → f k ≤ (interval_of xs k).low + more) →
       (k : ℕ) → k < length xs → f k ≤ (interval_of (tightened_below more above xs) k).high
   below_high above [] f falls first highs few k h = absurd (omega arith)
@@ -148,10 +137,6 @@ module _ (more : ℕ) where
   pub tight_low : (xs : List Interval) (k : ℕ) → (interval_of (tightened_by more xs) k).low ≡ (interval_of xs k).low
   tight_low [] k = refl
   tight_low (x ∷ xs) k = below_low x.high (x ∷ xs) k
-
-  pub tight_length : (xs : List Interval) → length (tightened_by more xs) ≡ length xs
-  tight_length [] = refl
-  tight_length (x ∷ xs) = below_length x.high (x ∷ xs)
 
   pub tight_high : (xs : List Interval) (f : ℕ → ℕ) → Falls f → AreHighs xs f → ((k : ℕ) → k < length xs → f k ≤ (interval_of xs k).low + more) → (k : ℕ) → k < length xs →
       f k ≤ (interval_of (tightened_by more xs) k).high

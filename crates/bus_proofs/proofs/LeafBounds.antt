@@ -18,14 +18,14 @@ use Rattle.plan_model.proofs.SumsOverCycles.{sum_below-add, sum_below-le_by}
 use Rattle.plan_model.proofs.TurnBounds.{plan_of}
 use Rattle.packed_times.specs.Packed.{packed_time, packed_tam_time, self_test_time}
 use Rattle.proof_model.specs.Proofs.{ListValue, OfTurns, OfTurnsOn, OfCrowd, OfPower, WeightsValue}
-use Rattle.bus_proofs.specs.Cases.{Case, known_ranks, spare, IsEmpty}
-use Rattle.bus_proofs.specs.Lists.{KeepsList, room_of, use_of, is_among, excludes_all}
-use Rattle.bus_proofs.specs.Leaves.{IsSum, LeafHolds, Slot, slot, is_short, all_slots, slots_of, is_rank, module_use, self_use, weighed, cost, least_cost, cost_of_all, worth_of_cycle}
-use Rattle.bus_proofs.specs.Bounds.{AreKept}
+use Rattle.leaf_bounds.specs.Cases.{Case, known_ranks, spare, IsEmpty}
+use Rattle.leaf_bounds.specs.Lists.{KeepsList, room_of, use_of, is_among, excludes_all, AreKept}
+use Rattle.leaf_bounds.specs.Leaves.{IsSum, LeafHolds, Slot, slot, is_short, all_slots, slots_of, is_rank, module_use, self_use, weighed, cost, least_cost, cost_of_all, worth_of_cycle}
 use Rattle.bus_proofs.proofs.Intervals.{lows-le, IsIn}
 use Rattle.bus_proofs.proofs.Rankings.{NoPlan, IsRanked}
 use Rattle.bus_proofs.proofs.ListBounds.{planned_at, time_of, NeverMeet, OneBus, never_bound, bus_never, turns_fit, turns_on_fit, LeastDraws, crowd_fits, powers_fit}
-use Rattle.bus_proofs.proofs.Weighed.{weighed-le, weighed-add, weighed-times, weighed-below, use_of-mono, by_module, by_rank, rate_of, rates-le, known_rank, slot_there, smallest-le, of_module, of_wires, on_module, on_wires}
+use Rattle.leaf_bounds.proofs.WeighedSums.{weighed-le, weighed-add, use_of-mono, smallest-le}
+use Rattle.bus_proofs.proofs.PlanSlots.{weighed-times, weighed-below, by_module, by_rank, rate_of, rates-le, known_rank, slot_there, of_module, of_wires, on_module, on_wires}
 use Rattle.common_lemmas.proofs.Tests.{if_le}
 use Rattle.common_lemmas.proofs.Lists.{in_filter}
 

@@ -1,12 +1,12 @@
 -- What the lists of a proof bound: tests that never run together, crowds under the limit of power, and powers.
 use Rattle.std.proofs.Common.{div-mul-le_self, le_of_mul-le-mul_right, add-mul, ◌≡◌, ℕ, ◌+◌, ◌*◌, ◌/◌, ◌≤◌, ◌<◌, Bool, true, false, Some, List, [], ◌∷◌, length, refl, ap, ◌∙◌, arith, inl, inr, ◌⊎◌, zero, suc, get_or, take, sym, ◌-◌, Option, None, MatchOption, map, mul-le-mul_right, slice_get, ◌&&◌, if◌then◌else◌, ◌||◌, IsTrue, sum_by, sum}
 use Rattle.std.proofs.lemmas.Bool.{cases_Bool, cases_order, and_parts, or_cases, false_from_ne_true, cases_lt, lt-ltb, le-ltb}
-use Rattle.std.proofs.lemmas.List.Sums.{sum_by-cons, position_or_len_is, AllPass-from_list_all}
-use Rattle.std.proofs.lemmas.Option.{slice_get-map, slice_get-get_or, slice_get_within, get_or_from_slice_get}
+use Rattle.std.proofs.lemmas.List.Sums.{sum_by-cons, AllPass-from_list_all}
+use Rattle.std.proofs.lemmas.Option.{slice_get-map}
 use Rattle.soc_model.specs.Chips.{SocValue, LiveTest, live_tests, same_test, id_of}
 use Rattle.plan_model.specs.Plans.{PlanValue, LimitsValue, PlannedTest, planned, planned_test, is_active, end_of, bus_place, IsActive, of_first, power_of, power_of_id}
 use Rattle.plan_model.specs.Right.{IsAt}
-use Rattle.plan_model.specs.Rules.{IsGood, Each, Wires, live_ids, Power}
+use Rattle.plan_model.specs.Rules.{IsGood, Each, Wires, Power}
 use Rattle.plan_model.specs.Bounds.{sum_below}
 use Rattle.plan_model.proofs.Sums.{one_if, sum_by-le_at, at_most_one, sum_by-filter}
 use Rattle.plan_model.proofs.SumsOverCycles.{while_active, sum_while_active, sum_below-sum_by, sum_below-le, sum_below-one, active_is}
@@ -14,17 +14,17 @@ use Rattle.plan_model.proofs.TurnBounds.{plan_of, end-le-cycles}
 use Rattle.std.proofs.lemmas.List.Elements.{All-contains}
 use Rattle.soc_model.specs.declared.TestId.{TestId}
 use Rattle.soc_model.specs.SoundChips.{IsSoundChip}
-use Rattle.plan_model.proofs.CertificatesAreBounds.{same_test_is, is_same_test}
+use Rattle.plan_model.proofs.CertificatesAreBounds.{same_test_is}
 use Rattle.plan_model.proofs.Lists.{at_contains}
 use Rattle.plan_model.proofs.TestsInGoodPlans.{planned_tam}
-use Rattle.live_tests.proofs.LiveIds.{ids_differ}
 use Rattle.exclusions.specs.Exclusions.{excludes, least_power}
-use Rattle.bus_proofs.specs.Lists.{is_among, live_place, names_exclude, IsTurn, excludes_all, is_beside, least_together, least_power_of, IsCrowd, counted, power_use, IsNear}
+use Rattle.leaf_bounds.specs.Lists.{is_among, names_exclude, IsTurn, excludes_all, is_beside, least_together, least_power_of, IsCrowd, counted, power_use, IsNear}
 use Rattle.common_lemmas.proofs.Lists.{any_at, sum_map}
 use Rattle.packed_times.specs.Packed.{rising}
 use Rattle.packed_times.proofs.Rising.{AllAtLeast, Rises, rising-rises, sum_by-rising, length-rising}
 use Rattle.std.proofs.lemmas.List.{length-map}
 use Rattle.plan_model.specs.Certificates.{is_called}
+use Rattle.leaf_bounds.proofs.TestNames.{one_place, place_is}
 
 -- ==== sums over tests of their times, counted cycle by cycle
 
@@ -93,28 +93,6 @@ at_take (x ∷ xs) n zero h = absurd (omega arith)
 at_take (x ∷ xs) zero (suc m) h = refl
 at_take (x ∷ xs) (suc n) (suc m) h = at_take xs n m (omega arith)
 
-pub name_at : (soc : SocValue) (i : ℕ) {l : LiveTest} → slice_get (live_tests soc) i ≡ Some l → slice_get (live_ids soc) i ≡ Some (id_of l)
-name_at soc i at = slice_get-map id_of (live_tests soc) i ∙ rw at refl
-
-module _ {soc : SocValue} (sound : IsSoundChip soc) (i : ℕ) where
-  -- live tests of one name are one
-  pub one_place : (j : ℕ) (a b : LiveTest) → slice_get (live_tests soc) i ≡ Some a → slice_get (live_tests soc) j ≡ Some b → id_of a ≡ id_of b → i ≡ j
-  one_place j a b at at' same = ids_differ soc sound i j (id_of b) (name_at soc i at ∙ ap Some same) (name_at soc j at')
-
-  -- a live test is found by its name
-  pub place_is : {l : LiveTest} → slice_get (live_tests soc) i ≡ Some l → live_place soc (id_of l) ≡ i
-  place_is {l} at =
-      let here = name_at soc i at in
-      let within = slice_get_within (live_ids soc) i (id_of l) here in
-      position_or_len_is (same_test (id_of l)) (live_ids soc) i (id_of l) (omega arith) (λ k less. false_from_ne_true _ (λ e. before k less within e)) (λ h. rw (get_or_from_slice_get (live_ids soc) i (id_of l) (id_of l) here) (is_same_test (id_of l)))
-    where
-      before : (k : ℕ) → k < i → i < length (live_ids soc) → same_test (id_of l) (get_or (live_ids soc) k (id_of l)) ≡ true → ⊥
-      before k less within e =
-          let there = slice_get-get_or (live_ids soc) k (id_of l) (omega arith) in
-          let same = same_test_is (id_of l) (get_or (live_ids soc) k (id_of l)) e in
-          let one = ids_differ soc sound k i (id_of l) (there ∙ ap Some (sym same)) (name_at soc i at) in
-          omega arith
-
 -- where the name stands in a list
 pub among_at : (tests : List TestId) (l : LiveTest) → is_among tests l ≡ true → (n : ℕ) × (slice_get tests n ≡ Some (id_of l))
 among_at tests l h =
@@ -128,7 +106,7 @@ module _ (soc : SocValue) (limits : LimitsValue) where
   abbrev pub NeverMeet : PlanValue → Type 0
   NeverMeet plan = (i j c : ℕ) (a b : LiveTest) → slice_get (live_tests soc) i ≡ Some a → slice_get (live_tests soc) j ≡ Some b → excludes soc limits i j ≡ true → IsActive (plan_of plan a) c → IsActive (plan_of plan b) c → ⊥
 
-  -- the same by their names
+  -- tests that exclude each other by name are never active together
   names_never : (plan : PlanValue) → IsSoundChip soc → NeverMeet plan → (i j c : ℕ) {a b : LiveTest} → slice_get (live_tests soc) i ≡ Some a →
       slice_get (live_tests soc) j ≡ Some b → names_exclude soc limits (id_of a) (id_of b) ≡ true → IsActive (plan_of plan a) c → IsActive (plan_of plan b) c → ⊥
   names_never plan sound never i j c {a} {b} at at' h active active' =

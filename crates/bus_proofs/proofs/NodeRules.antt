@@ -5,10 +5,12 @@ use Rattle.std.proofs.lemmas.List.{get_or_default}
 use Rattle.std.proofs.lemmas.List.Elements.{All-cons}
 use Rattle.std.proofs.lemmas.Option.{slice_get-get_or, slice_get_within, get_or_from_slice_get}
 use Rattle.soc_model.specs.Chips.{SocValue}
-use Rattle.bus_proofs.specs.declared.case.CaseRoom.{CaseRoom}
-use Rattle.bus_proofs.specs.Cases.{AreTwins, Case}
-use Rattle.bus_proofs.specs.CaseRooms.{IsCaseOf}
-use Rattle.bus_proofs.specs.Walks.{AreRanks, IsNewTwin, IsPlaceAt, IsWiredAt}
+use Rattle.leaf_bounds.specs.declared.case.CaseRoom.{CaseRoom}
+use Rattle.bus_proofs.specs.Cases.{AreTwins}
+use Rattle.leaf_bounds.specs.Cases.{Case}
+use Rattle.leaf_bounds.specs.CaseRooms.{IsCaseOf}
+use Rattle.bus_proofs.specs.Walks.{AreRanks, IsNewTwin, IsPlaceAt}
+use Rattle.leaf_bounds.specs.Bases.{IsWiredAt}
 
 -- ---- known ranks that differ
 

@@ -1,32 +1,30 @@
 -- What a whole check tells, and that its room serves again.
-use Rattle.std.proofs.Common.{◌≡◌, ℕ, ◌+◌, ◌^◌, ◌≤◌, ◌<◌, Some, List, length, map, get_or, refl, sym, ap, ◌∙◌, subst, arith, inl, inr, Bool, true, false, None, nat_lt, option_map, slice_get, if◌then◌else◌, Result, Ok, Err, IfErr, OnOk}
-use Rattle.std.proofs.lemmas.Bool.{cases_lt, ltb-false}
+use Rattle.std.proofs.Common.{◌≡◌, ℕ, ◌+◌, ◌^◌, ◌≤◌, ◌<◌, Some, List, length, map, get_or, refl, sym, ap, ◌∙◌, subst, arith, inl, inr, option_map, slice_get, Result, Ok, Err, IfErr, OnOk}
+use Rattle.std.proofs.lemmas.Bool.{cases_lt}
 use Rattle.std.proofs.lemmas.Option.{slice_get-map, slice_get_read, slice_get_within}
 use Rattle.soc_model.specs.Chips.{SocValue}
-use Rattle.soc_model.specs.declared.TheConstants.{MODULES_MOST}
-use Rattle.soc_model.specs.Sizes.{IsWithinSize}
-use Rattle.soc_model.specs.declared.Which.TheVariants.{Modules}
 use Rattle.plan_model.specs.Plans.{LimitsValue}
 use Rattle.plan_model.specs.Rules.{IsBound}
 use Rattle.proof_model.specs.declared.Node.{Node}
 use Rattle.bus_proofs.specs.declared.ProofFault.{ProofFault}
 use Rattle.bus_proofs.specs.declared.ProofFault.TheVariants.{BadList, BadNode, Less}
-use Rattle.bus_proofs.specs.declared.basis.Basis.{Basis}
-use Rattle.bus_proofs.specs.declared.case.CaseRoom.{CaseRoom}
-use Rattle.bus_proofs.specs.declared.leaf.LeafRoom.{LeafRoom}
+use Rattle.leaf_bounds.specs.declared.basis.Basis.{Basis}
+use Rattle.leaf_bounds.specs.declared.case.CaseRoom.{CaseRoom}
+use Rattle.leaf_bounds.specs.declared.leaf.LeafRoom.{LeafRoom}
 use Rattle.bus_proofs.specs.declared.walk.OpenSplit.{OpenSplit}
 use Rattle.proof_model.specs.Proofs.{ListValue, LeafValue, OfLeaf, CaseTree, nodes_of, node_value, ProofValue}
-use Rattle.bus_proofs.specs.Cases.{root_case}
+use Rattle.leaf_bounds.specs.Cases.{root_case}
 use Rattle.proof_model.specs.Sayable.{MayBeSaid}
-use Rattle.bus_proofs.specs.Bounds.{AreKept, IsAccepted, IsProofFault, all_cases}
-use Rattle.bus_proofs.specs.ListTables.{KeepFirst}
-use Rattle.bus_proofs.specs.CaseRooms.{HasCase, IsCaseOf, IsSame}
-use Rattle.bus_proofs.specs.Bases.{IsBasis, chip_of, limits_of, lists_of, proof_of}
-use Rattle.bus_proofs.specs.LeafAnswers.{HasLeafSpace}
+use Rattle.leaf_bounds.specs.Lists.{AreKept}
+use Rattle.bus_proofs.specs.Bounds.{IsAccepted, IsProofFault, all_cases}
+use Rattle.leaf_bounds.specs.ListTables.{KeepFirst}
+use Rattle.leaf_bounds.specs.CaseRooms.{HasCase, IsCaseOf, IsSame}
+use Rattle.leaf_bounds.specs.Bases.{IsBasis, chip_of, limits_of, lists_of, proof_of}
+use Rattle.leaf_bounds.specs.LeafAnswers.{HasLeafSpace}
 use Rattle.bus_proofs.specs.Walks.{FitsLeaves, IsChecked, named_in}
 use Rattle.bus_proofs.specs.ProofRooms.{IsProofRoom, RoomValue}
 use Rattle.bus_proofs.specs.Laws.{AcceptedProofsAreBounds}
-use Rattle.bus_proofs.proofs.Trails.{AreWithin, same_case, same_room}
+use Rattle.bus_proofs.proofs.RoomSteps.{AreWithin, same_case, same_room}
 
 -- ---- the lists
 
@@ -70,6 +68,29 @@ module _ (g : Basis) where
     turns_fit = omega (arith, long, room.turns_fit);
   }
 
+-- ---- the room of leaves
+
+-- a room after a leaf, where it has as many places
+pub fits_after : {g : Basis} (old : LeafRoom) {new : LeafRoom} → FitsLeaves g old → HasLeafSpace g new →
+    length new.pack.bus.places.items ≡ length old.pack.bus.places.items → FitsLeaves g new
+fits_after old fits space long place leaf at = record {
+  few = (fits place leaf at).few;
+  places = (let p = (fits place leaf at).places in omega (arith, p, long));
+  space = space;
+}
+
+-- a room where no work is noted
+pub fits_begun : (g : Basis) (room : LeafRoom) → FitsLeaves g room → FitsLeaves g (record room { pack = record room.pack { work = 0 } })
+fits_begun g room fits place leaf at =
+    let f = fits place leaf at in
+    let s = f.space in
+    let p = s.pack in
+    record {
+      few = f.few;
+      places = f.places;
+      space = record { weighed = s.weighed; nothing = s.nothing; pack = record { cells = p.cells; wires = p.wires; worth = p.worth; kept = p.kept; little = omega arith } };
+    }
+
 -- ---- how many lists or modules a leaf names
 
 pub uses_more : (nodes : List Node) (place most next : ℕ) {node : Node} →
@@ -90,16 +111,6 @@ uses_more nodes place most next {node} before within is here less q w q_less at 
         here w (value (sym there ∙ ap (slice_get (map node_value nodes)) (sym same) ∙ at))
 
 -- ---- a room is made
-
-pub few_modules : (soc : SocValue) → IsWithinSize soc → length soc.modules ≤ MODULES_MOST
-few_modules soc size = go (nat_lt MODULES_MOST (length soc.modules)) refl (size Modules)
-  where
-    some : Some (length soc.modules) ≡ None → ⊥
-    some e = cc
-
-    go : (b : Bool) → nat_lt MODULES_MOST (length soc.modules) ≡ b → (if b then Some (length soc.modules) else None) ≡ None → length soc.modules ≤ MODULES_MOST
-    go true is e = absurd (some e)
-    go false is e = ltb-false MODULES_MOST (length soc.modules) is
 
 pub new_room : (g : Basis) (soc : SocValue) (limits : LimitsValue) (p : ProofValue) (room : CaseRoom) (leaf : LeafRoom) (turns : List OpenSplit) (uses : ℕ) → IsBasis g →
     chip_of g ≡ soc → limits_of g ≡ limits → proof_of g ≡ p → MayBeSaid p → HasCase room → IsCaseOf room root_case → room.modules ≡ length soc.modules → room.widths.wires ≡ limits.wires →

@@ -11,9 +11,12 @@ use Rattle.plan_model.proofs.CertificatesAreBounds.{place_or, some_place}
 use Rattle.plan_model.proofs.Lists.{at_contains, in_append_right, from_flat_map, any_from}
 use Rattle.plan_model.proofs.PowerAndAreaBounds.{bus_width, widths_fit}
 use Rattle.proof_model.specs.Proofs.{ListValue, LeafValue, SplitValue, OfWide, OfPlace, OfSplit, OfLeaf, CaseTree, Leaf, Branches}
-use Rattle.bus_proofs.specs.Cases.{Case, known_ranks, tightened, with_rank, narrow, wide, placed_on, placed_off, case_by, first_case, second_case, NodeCase, in_case, cases_of, AreTwins, KeepsSplit, root_case}
-use Rattle.bus_proofs.specs.Bounds.{AnyLeafHolds, AreEnough, IsEnough, KeepsLeaf, work_of_all}
-use Rattle.bus_proofs.proofs.Intervals.{Falls, IsIn, Fits, tightened_in, with_rank_in, narrow_in, wide_in, placed_on_in, placed_off_in, exchanged, exchanged_in, exchanged_at, exchanged_back, sum_below-first}
+use Rattle.leaf_bounds.specs.Cases.{Case, known_ranks, tightened, narrow, wide, placed_on, placed_off, root_case}
+use Rattle.bus_proofs.specs.Cases.{with_rank, case_by, first_case, second_case, NodeCase, in_case, cases_of, AreTwins, KeepsSplit}
+use Rattle.leaf_bounds.specs.AnyLeaves.{AnyLeafHolds, KeepsLeaf}
+use Rattle.bus_proofs.specs.Bounds.{AreEnough, IsEnough, work_of_all}
+use Rattle.bus_proofs.proofs.Intervals.{Falls, IsIn, Fits, tightened_in, with_rank_in, narrow_in, wide_in, placed_on_in, placed_off_in, exchanged, exchanged_in, exchanged_at, exchanged_back}
+use Rattle.leaf_bounds.proofs.PackSteps.{sum_below-first}
 use Rattle.common_lemmas.proofs.Lists.{any_at, at_left, contains_at}
 use Rattle.std.specs.List.Sorted.{IsPermutation}
 use Rattle.std.proofs.lemmas.List.{length-map}

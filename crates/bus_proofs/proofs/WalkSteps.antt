@@ -8,18 +8,20 @@ use Rattle.std.proofs.Math.Seq.{drop-cons}
 use Rattle.soc_model.specs.Chips.{SocValue}
 use Rattle.bus_proofs.specs.declared.ProofFault.{ProofFault}
 use Rattle.bus_proofs.specs.declared.ProofFault.TheVariants.{BadList, BadNode, Less}
-use Rattle.bus_proofs.specs.declared.basis.Basis.{Basis}
-use Rattle.bus_proofs.specs.declared.case.CaseRoom.{CaseRoom}
-use Rattle.bus_proofs.specs.declared.case.Mark.{Mark}
+use Rattle.leaf_bounds.specs.declared.basis.Basis.{Basis}
+use Rattle.leaf_bounds.specs.declared.case.CaseRoom.{CaseRoom}
+use Rattle.leaf_bounds.specs.declared.case.Mark.{Mark}
 use Rattle.bus_proofs.specs.declared.walk.OpenSplit.{OpenSplit}
 use Rattle.proof_model.specs.Proofs.{LeafValue, SplitValue, OfWide, OfPlace, NodeValue, OfSplit, OfLeaf, CaseTree, Leaf, Branches, nodes_of}
-use Rattle.bus_proofs.specs.Cases.{Case, interval_of, known_ranks, narrow, placed_on, tightened, with_rank, case_by, first_case, second_case, NodeCase, in_case, cases_of, root_case, KeepsSplit}
+use Rattle.leaf_bounds.specs.Cases.{Case, interval_of, known_ranks, narrow, placed_on, tightened, root_case}
+use Rattle.bus_proofs.specs.Cases.{with_rank, case_by, first_case, second_case, NodeCase, in_case, cases_of, KeepsSplit}
 use Rattle.bus_proofs.specs.Bounds.{HasFault, KeepsNode, NodeHolds, all_cases, work_of_all}
-use Rattle.bus_proofs.specs.CaseRooms.{HasCase, IsCaseOf, IsFurther, IsMark}
-use Rattle.bus_proofs.specs.Trails.{IsFew}
-use Rattle.bus_proofs.specs.Bases.{chip_of, limits_of, lists_of, claim_of, proof_of}
+use Rattle.leaf_bounds.specs.CaseRooms.{HasCase, IsCaseOf, IsFurther, IsMark}
+use Rattle.leaf_bounds.specs.Trails.{IsFew}
+use Rattle.leaf_bounds.specs.Bases.{chip_of, limits_of, lists_of, claim_of, proof_of}
 use Rattle.bus_proofs.specs.Walks.{no_turn, turn_at, split_case, branch_later, IsRoomFor, IsNodeAt, IsWideNow, IsPlaceAt, IsForked, IsTurn, IsLaterThen, IsWithin, Awaits, Begins, GoesOn, IsHere, IsFork, Follows, IsAt, IsBegun, IsSecond, IsJudged, IsEnoughFor, node_work}
-use Rattle.bus_proofs.proofs.Trails.{few_at, further_none, further_then, room_next, with_rank_within}
+use Rattle.leaf_bounds.proofs.Trails.{few_at}
+use Rattle.bus_proofs.proofs.RoomSteps.{further_none, further_then, room_next, with_rank_within}
 
 -- ---- what awaits behind the splits that are under way
 

@@ -7,18 +7,11 @@ use Rattle.plan_model.specs.Rules.{Each, IsFirstBreach}
 use Rattle.bus_proofs.specs.declared.ProofFault.{ProofFault}
 use Rattle.bus_proofs.specs.declared.ProofFault.TheVariants.{BadList, BadNode, Less}
 use Rattle.proof_model.specs.Proofs.{ListValue, LeafValue, OfSum, OfPack, NodeValue, OfSplit, OfLeaf, CaseTree, nodes_of, ProofValue}
-use Rattle.bus_proofs.specs.Cases.{Case, root_case, NodeCase, cases_of, KeepsSplit}
-use Rattle.bus_proofs.specs.Lists.{KeepsList}
-use Rattle.bus_proofs.specs.Leaves.{IsSum, LeafHolds, leaf_shows}
-use Rattle.bus_proofs.specs.PackLeaves.{IsPack, PackHolds, pack_work}
-
--- a list keeps its rule, whatever lists are before it
-abbrev pub KeptBehind : SocValue → LimitsValue → (earlier : List ListValue) → ListValue → Type 0
-KeptBehind soc limits earlier list = KeepsList soc limits list
-
--- so does each list
-abbrev pub AreKept : SocValue → LimitsValue → List ListValue → Type 0
-AreKept soc limits lists = Each (KeptBehind soc limits) lists
+use Rattle.leaf_bounds.specs.Cases.{Case, root_case}
+use Rattle.bus_proofs.specs.Cases.{NodeCase, cases_of, KeepsSplit}
+use Rattle.leaf_bounds.specs.PackLeaves.{pack_work}
+use Rattle.leaf_bounds.specs.AnyLeaves.{AnyLeafHolds, KeepsLeaf, any_leaf_shows}
+use Rattle.leaf_bounds.specs.Lists.{AreKept, KeptBehind}
 
 -- ---- nodes
 
@@ -31,21 +24,6 @@ work_of_node w claim c (OfLeaf (OfPack pricing)) = pack_work w claim c pricing
 -- the work of some nodes
 abbrev pub work_of_all : (w claim : ℕ) → List NodeCase → ℕ
 work_of_all w claim nodes = sum_by (λ (n : NodeCase). work_of_node w claim n.within n.node) nodes
-
--- the leaf keeps its rule in its case, where the leaves before it have the work `done`
-abbrev pub KeepsLeaf : SocValue → LimitsValue → List ListValue → (claim done : ℕ) → Case → LeafValue → Type 0
-KeepsLeaf soc limits lists claim done c (OfSum weights) = IsSum lists c weights
-KeepsLeaf soc limits lists claim done c (OfPack pricing) = IsPack soc limits.wires lists claim done c pricing
-
--- it holds
-abbrev pub AnyLeafHolds : SocValue → LimitsValue → List ListValue → (claim : ℕ) → Case → LeafValue → Type 0
-AnyLeafHolds soc limits lists claim c (OfSum weights) = LeafHolds soc limits lists claim c weights
-AnyLeafHolds soc limits lists claim c (OfPack pricing) = PackHolds soc limits lists claim c pricing
-
--- the cycles that it shows where it doesn't: a leaf of prices shows none
-abbrev pub any_leaf_shows : SocValue → LimitsValue → List ListValue → (claim : ℕ) → Case → LeafValue → ℕ
-any_leaf_shows soc limits lists claim c (OfSum weights) = leaf_shows soc limits lists claim c weights
-any_leaf_shows soc limits lists claim c (OfPack pricing) = 0
 
 -- the node keeps its rule in its case
 abbrev pub KeepsNode : SocValue → LimitsValue → List ListValue → (claim done : ℕ) → Case → NodeValue → Type 0

@@ -1,5 +1,5 @@
 -- What an accepted proof tells of the plans of a chip.
-use Rattle.std.specs.Prelude.{◌≡◌, ◌<◌, ◌≤◌, Option, List, ℕ}
+use Rattle.std.specs.Prelude.{◌≡◌, ◌<◌, ◌≤◌, List, ℕ}
 use Rattle.soc_model.specs.Chips.{SocValue}
 use Rattle.soc_model.specs.SoundChips.{IsSoundChip}
 use Rattle.plan_model.specs.Plans.{LimitsValue, PlanValue}
@@ -7,12 +7,12 @@ use Rattle.plan_model.specs.Rules.{IsGood, IsBound}
 use Rattle.plan_model.specs.SoundLimits.{IsSoundLimits}
 use Rattle.bus_proofs.specs.declared.ProofFault.{ProofFault}
 use Rattle.bus_proofs.specs.declared.ProofFault.TheVariants.{Less}
-use Rattle.packed_times.specs.Packed.{packed_tam_time}
-use Rattle.proof_model.specs.Proofs.{ListValue, WeightsValue, CaseTree, nodes_of, ProofValue}
-use Rattle.bus_proofs.specs.Cases.{Case, cases_of}
+use Rattle.proof_model.specs.Proofs.{ListValue, CaseTree, nodes_of, ProofValue}
+use Rattle.leaf_bounds.specs.Cases.{Case}
+use Rattle.bus_proofs.specs.Cases.{cases_of}
 use Rattle.bus_proofs.specs.Rankings.{IsRanking, IsInCase}
-use Rattle.bus_proofs.specs.Leaves.{slot, cost}
-use Rattle.bus_proofs.specs.Bounds.{AreKept, AreEnough, IsAccepted, IsProofFault}
+use Rattle.leaf_bounds.specs.Lists.{AreKept}
+use Rattle.bus_proofs.specs.Bounds.{AreEnough, IsAccepted, IsProofFault}
 
 -- the buses of every plan have a ranking
 abbrev pub PlansHaveRankings : Type 0
@@ -32,14 +32,6 @@ abbrev pub AcceptedProofsAreBounds : Type 0
 AcceptedProofsAreBounds =
     (soc : SocValue) (limits : LimitsValue) (p : ProofValue) →
     IsSoundChip soc → IsSoundLimits soc limits → IsAccepted soc limits p → IsBound soc limits p.claimed
-
--- where a module takes one time on two widths, it costs no less on the wider, at no lesser rate
-abbrev pub WiderSlotsCostNoLess : Type 0
-WiderSlotsCostNoLess =
-    (soc : SocValue) (limits : LimitsValue) (lists : List ListValue) (weights : WeightsValue) (place : ℕ) (rank : Option ℕ) →
-    (narrow wide low_rate high_rate : ℕ) → 1 ≤ narrow → narrow ≤ wide →
-    packed_tam_time soc place narrow ≡ packed_tam_time soc place wide → low_rate ≤ high_rate →
-    cost soc limits lists weights place (slot rank narrow low_rate) ≤ cost soc limits lists weights place (slot rank wide high_rate)
 
 -- a list of nodes is that of at most one tree
 abbrev pub NodesTellTheTree : Type 0

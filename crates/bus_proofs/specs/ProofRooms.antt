@@ -2,15 +2,15 @@
 use Rattle.std.specs.Prelude.{◌≤◌, List, length}
 use Rattle.soc_model.specs.Chips.{SocValue}
 use Rattle.plan_model.specs.Plans.{LimitsValue}
-use Rattle.bus_proofs.specs.declared.basis.Basis.{Basis}
-use Rattle.bus_proofs.specs.declared.case.CaseRoom.{CaseRoom}
-use Rattle.bus_proofs.specs.declared.leaf.LeafRoom.{LeafRoom}
+use Rattle.leaf_bounds.specs.declared.basis.Basis.{Basis}
+use Rattle.leaf_bounds.specs.declared.case.CaseRoom.{CaseRoom}
+use Rattle.leaf_bounds.specs.declared.leaf.LeafRoom.{LeafRoom}
 use Rattle.bus_proofs.specs.declared.walk.OpenSplit.{OpenSplit}
 use Rattle.proof_model.specs.Proofs.{ProofValue}
-use Rattle.bus_proofs.specs.Cases.{root_case}
+use Rattle.leaf_bounds.specs.Cases.{root_case}
 use Rattle.proof_model.specs.Sayable.{MayBeSaid}
-use Rattle.bus_proofs.specs.Bases.{IsBasis, proof_of}
-use Rattle.bus_proofs.specs.CaseRooms.{IsCaseOf}
+use Rattle.leaf_bounds.specs.Bases.{IsBasis, proof_of}
+use Rattle.leaf_bounds.specs.CaseRooms.{IsCaseOf}
 use Rattle.bus_proofs.specs.Walks.{IsRoomFor, FitsLeaves}
 
 -- whose check a room is for

@@ -6,7 +6,7 @@ use Rattle.soc_model.specs.Chips.{ModuleValue, SocValue}
 use Rattle.soc_model.specs.Modes.{has_tam}
 use Rattle.plan_model.specs.Plans.{PlanValue, bus_place, widths}
 use Rattle.plan_model.specs.Certificates.{on}
-use Rattle.bus_proofs.specs.Cases.{Case, known_ranks, low_at, high_at}
+use Rattle.leaf_bounds.specs.Cases.{Case, known_ranks, low_at, high_at}
 
 -- the width of the bus of a rank, in wires; a rank past the end has none
 abbrev pub rank_width : PlanValue → List ℕ → ℕ → ℕ

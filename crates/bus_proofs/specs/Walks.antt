@@ -7,16 +7,17 @@ use Rattle.soc_model.specs.SoundChips.{AllDiffer}
 use Rattle.plan_model.specs.Certificates.{HasTamTest}
 use Rattle.bus_proofs.specs.declared.ProofFault.{ProofFault}
 use Rattle.bus_proofs.specs.declared.ProofFault.TheVariants.{BadList, BadNode, Less}
-use Rattle.bus_proofs.specs.declared.basis.Basis.{Basis}
-use Rattle.bus_proofs.specs.declared.case.CaseRoom.{CaseRoom}
-use Rattle.bus_proofs.specs.declared.leaf.LeafRoom.{LeafRoom}
+use Rattle.leaf_bounds.specs.declared.basis.Basis.{Basis}
+use Rattle.leaf_bounds.specs.declared.case.CaseRoom.{CaseRoom}
+use Rattle.leaf_bounds.specs.declared.leaf.LeafRoom.{LeafRoom}
 use Rattle.bus_proofs.specs.declared.walk.OpenSplit.{OpenSplit}
 use Rattle.proof_model.specs.Proofs.{LeafValue, OfSum, OfPack, SplitValue, OfWide, OfPlace, NodeValue, OfSplit, OfLeaf, CaseTree}
-use Rattle.bus_proofs.specs.Cases.{Case, known_ranks, with_rank, wide, placed_off, case_by, first_case, second_case, NodeCase, cases_of, IsWide, IsPlace, KeepsSplit}
+use Rattle.leaf_bounds.specs.Cases.{Case, known_ranks, wide, placed_off}
+use Rattle.bus_proofs.specs.Cases.{with_rank, case_by, first_case, second_case, NodeCase, cases_of, IsWide, IsPlace, KeepsSplit}
 use Rattle.bus_proofs.specs.Bounds.{AreEnough, HasFault, IsEnough, KeepsNode, work_of_node}
-use Rattle.bus_proofs.specs.CaseRooms.{HasCase, IsCaseOf, IsFurther, IsMark}
-use Rattle.bus_proofs.specs.Bases.{chip_of, limits_of, lists_of, claim_of, proof_of}
-use Rattle.bus_proofs.specs.LeafAnswers.{HasLeafSpace, IsCaseFor, IsShort}
+use Rattle.leaf_bounds.specs.CaseRooms.{HasCase, IsCaseOf, IsFurther, IsMark}
+use Rattle.leaf_bounds.specs.Bases.{chip_of, limits_of, lists_of, claim_of, proof_of, IsWiredAt}
+use Rattle.leaf_bounds.specs.LeafAnswers.{HasLeafSpace, IsCaseFor, IsShort}
 
 -- ---- the room of a case
 
@@ -52,12 +53,6 @@ pub record IsWideNow (room : CaseRoom) (w : ℕ) (c : Case) (rank width : ℕ) :
   pub rule : IsWide w c rank width
   pub case : IsCaseOf room (with_rank w c rank)
   pub within : rank < length room.widths.intervals.items
-
--- a module with a test over the wires stands at this place
-pub record IsWiredAt (soc : SocValue) (m place : ℕ) : Type 0 where
-  pub there : module_place soc m ≡ Some place
-  pub within : place < length soc.modules
-  pub tam : HasTamTest soc m
 
 -- ranks that are known, no two of them the same
 pub record AreRanks (known : ℕ) (ranks : List ℕ) : Type 0 where

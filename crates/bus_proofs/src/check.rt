@@ -6,22 +6,19 @@ ghost use Rattle.plan_model.specs.Views.{limits_value};
 ghost use Rattle.plan_model.specs.Rules.{IsBound};
 ghost use Rattle.plan_model.specs.SoundLimits.{IsSoundLimits};
 ghost use Rattle.live_tests.specs.Resolved.{IsResolved};
-ghost use Rattle.bus_proofs.specs.declared.basis.Basis.{Basis};
+ghost use Rattle.leaf_bounds.specs.declared.basis.Basis.{Basis};
 ghost use Rattle.proof_model.specs.Proofs.{LeafValue, OfLeaf, node_value, proof_value};
 ghost use Rattle.proof_model.specs.Sayable.{MayBeSaid};
 ghost use Rattle.bus_proofs.specs.Bounds.{IsAccepted, IsProofFault};
-ghost use Rattle.bus_proofs.specs.Bases.{chip_of, limits_of, proof_of};
+ghost use Rattle.leaf_bounds.specs.Bases.{chip_of, limits_of, proof_of};
 ghost use Rattle.bus_proofs.specs.Walks.{FitsLeaves, named_in};
 ghost use Rattle.bus_proofs.specs.ProofRooms.{IsProofRoom};
 
 use crate::ProofFault;
-use crate::basis::Basis;
-use crate::case::{CaseRoom, Mark};
 use crate::laws::{accepted_proofs_are_bounds, accepted_proofs_have_no_fault};
-use crate::leaf::LeafRoom;
-use crate::leaf_costs::USES_MOST;
 use crate::nodes::RANKS_MOST;
 use crate::walk::{OpenSplit, check_nodes};
+use leaf_bounds::{Basis, CaseRoom, LeafRoom, Mark, USES_MOST};
 use live_tests::{Problem, Resolved};
 use outside::NoMemory;
 use plan_model::Limits;
@@ -41,7 +38,7 @@ pub struct ProofRoom<'a> {
 }
 
 impl<'a> Model for ProofRoom<'a> {
-    ghost use Rattle.bus_proofs.specs.Bases.{chip_of, limits_of, proof_of};
+    ghost use Rattle.leaf_bounds.specs.Bases.{chip_of, limits_of, proof_of};
     ghost use Rattle.bus_proofs.specs.ProofRooms.{RoomValue, IsProofRoom};
 
     ghost Value = { RoomValue };
@@ -108,7 +105,7 @@ impl<'a> ProofRoom<'a> {
         room
     }
 
-    /// The same over a problem.
+    /// Room for a proof over a problem.
     pub fn over(
         alloc: Global,
         problem: &Problem<'a>,
@@ -124,7 +121,7 @@ impl<'a> ProofRoom<'a> {
         ProofRoom::with_resolved(alloc, problem.soc, problem.limits, problem.resolved, proof)
     }
 
-    /// The same over a chip and its limits, resolved.
+    /// Room for a proof over a chip and its limits, resolved.
     fn with_resolved(
         alloc: Global,
         soc: &'a Soc,

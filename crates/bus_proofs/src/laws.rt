@@ -1,8 +1,8 @@
 //! What an accepted proof tells. Each law is the contract of a function that does nothing: a caller learns it by the call.
-ghost use Rattle.bus_proofs.specs.Laws.{PlansHaveRankings, AcceptedCasesHaveNoPlan, AcceptedProofsAreBounds, WiderSlotsCostNoLess, NodesTellTheTree, ProofsHaveOneFault, AcceptedProofsHaveNoFault, LessShowsLess};
+ghost use Rattle.bus_proofs.specs.Laws.{PlansHaveRankings, AcceptedCasesHaveNoPlan, AcceptedProofsAreBounds, NodesTellTheTree, ProofsHaveOneFault, AcceptedProofsHaveNoFault, LessShowsLess};
 
 use exclusions::{exclusions_are_decided, exclusions_hold, least_powers_are_drawn};
-use packed_times::{packed_times_are_least, planned_tests_are_packed};
+use packed_times::planned_tests_are_packed;
 
 /// The buses of every plan have a ranking by their widths.
 pub fn plans_have_rankings()
@@ -28,14 +28,6 @@ pub fn accepted_proofs_are_bounds()
     exclusions_hold();
     exclusions_are_decided();
     least_powers_are_drawn();
-}
-
-/// Of a leaf's slots on one bus only the first width, and those on which the module takes less time, need be looked at:
-/// where it takes one time on two widths, it costs no less on the wider.
-pub fn wider_slots_cost_no_less()
-    ensures { WiderSlotsCostNoLess }
-{
-    packed_times_are_least();
 }
 
 /// A list of nodes is that of at most one tree.

@@ -5,36 +5,16 @@
 //! in cycles.
 #![tactic(auto)]
 
-mod basis;
-mod case;
 mod check;
 mod laws;
-mod leaf;
-mod leaf_costs;
-mod leaf_slots;
-mod leaf_sums;
-mod list_rules;
-mod list_table;
-mod lists;
 mod nodes;
-mod pack;
-mod pack_buses;
-mod pack_room;
-mod pack_rules;
-mod places;
-mod ranks;
-mod test_table;
-mod twins;
 mod walk;
-mod widths;
 
 pub use check::{ProofRoom, check_proof};
 pub use laws::{
     accepted_cases_have_no_plan, accepted_proofs_are_bounds, accepted_proofs_have_no_fault,
     less_shows_less, nodes_tell_the_tree, plans_have_rankings, proofs_have_one_fault,
-    wider_slots_cost_no_less,
 };
-pub use widths::Interval;
 
 /// Why a proof isn't accepted. Lists and nodes go by their places, counted from 0.
 #[derive(Clone, Copy, PartialEq, Eq, Debug)]

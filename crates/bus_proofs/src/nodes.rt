@@ -1,17 +1,13 @@
 //! Whether a split keeps its rule in a case.
 ghost use Rattle.std.specs.Prelude.{◌≡◌, ℕ, None, ◌<◌, ◌≤◌, ◌∷◌, true, false, length, slice_index, IfSome};
 ghost use Rattle.std.specs.List.{All};
-ghost use Rattle.plan_model.specs.Certificates.{HasTamTest};
-ghost use Rattle.bus_proofs.specs.Cases.{Case, AreTwins, IsPlace, IsWide, with_rank};
-ghost use Rattle.bus_proofs.specs.CaseRooms.{HasCase, IsCaseOf, IsFurther};
-ghost use Rattle.bus_proofs.specs.Bases.{IsBasis, chip_of};
-ghost use Rattle.bus_proofs.specs.Walks.{AreRanks, IsNewTwin, IsPlaceAt, IsRoomFor, IsWideNow, IsWiredAt};
+ghost use Rattle.leaf_bounds.specs.Cases.{Case};
+ghost use Rattle.bus_proofs.specs.Cases.{AreTwins, IsPlace, IsWide, with_rank};
+ghost use Rattle.leaf_bounds.specs.CaseRooms.{HasCase, IsCaseOf, IsFurther};
+ghost use Rattle.leaf_bounds.specs.Bases.{IsBasis, chip_of};
+ghost use Rattle.bus_proofs.specs.Walks.{AreRanks, IsNewTwin, IsPlaceAt, IsRoomFor, IsWideNow};
 
-use crate::basis::Basis;
-use crate::case::CaseRoom;
-use crate::twins::are_alike;
-use crate::widths::{Interval, interval_at, known_ranks};
-use soc_model::place_of;
+use leaf_bounds::{Basis, CaseRoom, Interval, are_alike, interval_at, known_ranks, wired_place};
 
 /// Ranks go below this.
 pub(crate) const RANKS_MOST: usize = 256;
@@ -65,21 +61,6 @@ pub(crate) fn is_wide(case: &mut CaseRoom, rank: u64, width: u64) -> bool
     know_rank(case, rank as usize);
     let interval = interval_at(&case.widths, rank as usize);
     is_inside(interval, width)
-}
-
-/// The place of a module with a test over the wires.
-pub(crate) fn wired_place(basis: &Basis<'_>, number: u64) -> Option<usize>
-    requires { IsBasis basis.now }
-    ensures some { IfSome result (λ place. IsWiredAt (chip_of basis.now) number place) }
-    ensures none { result ≡ None → HasTamTest (chip_of basis.now) number → ⊥ }
-{
-    let Some(place) = place_of(basis.soc, number) else {
-        return None;
-    };
-    if !basis.wired[place] {
-        return None;
-    }
-    Some(place)
 }
 
 /// Whether a number is that of a known rank.

@@ -1,23 +1,21 @@
 //! Goes over the nodes of a proof in the order of its text, with the case of each. Splits are kept in a list, so that nothing
 //! recurses over the nodes.
 ghost use Rattle.std.specs.Prelude.{◌≡◌, ◌+◌, ◌<◌, ◌≤◌, ℕ, true, false, Some, List, IfOk, OnOk, length, slice_get, slice_set};
-ghost use Rattle.bus_proofs.specs.declared.case.CaseRoom.{CaseRoom};
-ghost use Rattle.bus_proofs.specs.declared.basis.Basis.{Basis};
+ghost use Rattle.leaf_bounds.specs.declared.case.CaseRoom.{CaseRoom};
+ghost use Rattle.leaf_bounds.specs.declared.basis.Basis.{Basis};
 ghost use Rattle.proof_model.specs.Proofs.{LeafValue, SplitValue, OfWide, OfPlace, OfSplit, OfSum, OfPack, OfLeaf, CaseTree, node_value, nodes_of, proof_value, pricing_value, weights_value};
-ghost use Rattle.bus_proofs.specs.Cases.{Case, IsPlace, IsWide, NodeCase, in_case, root_case};
+ghost use Rattle.leaf_bounds.specs.Cases.{Case, root_case};
+ghost use Rattle.bus_proofs.specs.Cases.{IsPlace, IsWide, NodeCase, in_case};
 ghost use Rattle.proof_model.specs.Sayable.{MayBeSaid};
 ghost use Rattle.bus_proofs.specs.Bounds.{all_cases};
-ghost use Rattle.bus_proofs.specs.CaseRooms.{IsCaseOf, IsFurther};
-ghost use Rattle.bus_proofs.specs.Bases.{IsBasis, AllKept, chip_of, limits_of, claim_of, proof_of};
-ghost use Rattle.bus_proofs.specs.LeafAnswers.{IsLeafAnswer};
+ghost use Rattle.leaf_bounds.specs.CaseRooms.{IsCaseOf, IsFurther};
+ghost use Rattle.leaf_bounds.specs.Bases.{IsBasis, AllKept, chip_of, limits_of, claim_of, proof_of};
+ghost use Rattle.leaf_bounds.specs.LeafAnswers.{IsLeafAnswer};
 ghost use Rattle.bus_proofs.specs.Walks.{Awaits, FitsLeaves, GoesOn, IsAt, IsBegun, IsChecked, IsForked, IsHere, IsJudged, IsNodeAt, IsRoomFor, IsSecond, IsTurn, branch_later, node_work, turn_at};
 
 use crate::ProofFault;
-use crate::basis::Basis;
-use crate::case::{CaseRoom, Mark};
-use crate::leaf::{LeafAnswer, LeafRoom, check_leaf};
 use crate::nodes::{is_wide, placed};
-use crate::pack::check_pack;
+use leaf_bounds::{Basis, CaseRoom, LeafAnswer, LeafRoom, Mark, check_leaf, check_pack};
 use proof_model::{Node, Pricing, Proof, Weights};
 use soc_model::place_of;
 

@@ -1,4 +1,4 @@
-use Rattle.arch_search.specs.Problems.{AreFirstBuses}
+use Rattle.arch_search.specs.States.{AreFirstBuses}
 use Rattle.arch_search.proofs.state.first_buses.Given as goal
 
 abbrev pub invariant-loop-test : goal.invariant-loop-test

@@ -1,7 +1,7 @@
 use Rattle.std.proofs.Common.{◌∙◌, ap, length}
 use Rattle.std.proofs.lemmas.List.{length-map}
 use Rattle.resource_table.specs.Jobs.{test_value}
-use Rattle.arch_search.proofs.Refilled.{with_chains}
+use Rattle.arch_schedule.proofs.Refilled.{with_chains}
 use Rattle.arch_search.proofs.weighing.could_end.Goals as goal
 
 pub returns-then-longest-most-clause-room : goal.returns-then-longest-most-clause-room

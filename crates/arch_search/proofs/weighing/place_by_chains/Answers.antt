@@ -1,5 +1,5 @@
 use Rattle.std.proofs.Common.{◌∙◌, length}
-use Rattle.arch_search.proofs.Refilled.{with_second}
+use Rattle.arch_schedule.proofs.Refilled.{with_second}
 use Rattle.arch_search.proofs.weighing.place_by_chains.Goals as goal
 
 pub place_order-requires-clause-room : goal.place_order-requires-clause-room

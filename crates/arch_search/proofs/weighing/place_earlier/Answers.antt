@@ -1,5 +1,5 @@
-use Rattle.std.proofs.Common.{ℕ, ◌<◌, List, length, refl, sym, subst, All}
-use Rattle.arch_search.proofs.Changed.{order_before, order_within, state_ordered}
+use Rattle.std.proofs.Common.{ℕ, ◌<◌, List, length, sym, subst, All}
+use Rattle.arch_search.proofs.Changed.{order_before, order_within}
 use Rattle.arch_search.proofs.weighing.place_earlier.Goals as goal
 
 pub advance_drawn-requires : goal.advance_drawn-requires

@@ -1,7 +1,8 @@
 use Rattle.std.proofs.Common.{◌≡◌}
 use Rattle.resource_table.specs.Schedules.{IsSoundTable}
-use Rattle.arch_search.specs.Problems.{IsProblem, IsStateOf}
-use Rattle.arch_search.specs.Rooms.{HasRoomFor}
+use Rattle.arch_schedule.specs.Problems.{IsProblem}
+use Rattle.arch_search.specs.States.{IsStateOf}
+use Rattle.arch_schedule.specs.Rooms.{HasRoomFor}
 use Rattle.arch_search.proofs.weighing.place_earlier.Given as goal
 
 abbrev pub invariant-loop-time : goal.invariant-loop-time

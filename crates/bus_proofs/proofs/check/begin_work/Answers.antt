@@ -1,4 +1,4 @@
-use Rattle.bus_proofs.proofs.PackAnswers.{fits_begun}
+use Rattle.bus_proofs.proofs.ProofChecks.{fits_begun}
 use Rattle.bus_proofs.proofs.check.begin_work.Goals as goal
 
 pub returns-clause-leaves : goal.returns-clause-leaves

@@ -1,5 +1,5 @@
 use Rattle.std.proofs.Common.{refl}
-use Rattle.bus_proofs.specs.Bases.{chip_of}
+use Rattle.leaf_bounds.specs.Bases.{chip_of}
 use Rattle.bus_proofs.proofs.NodeRules.{all_twins, twins_more}
 use Rattle.bus_proofs.proofs.nodes.are_twins.Goals as goal
 

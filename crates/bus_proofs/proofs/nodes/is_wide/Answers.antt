@@ -1,5 +1,5 @@
 use Rattle.std.proofs.Common.{rules}
-use Rattle.bus_proofs.proofs.Trails.{not_wide, wide_now}
+use Rattle.bus_proofs.proofs.RoomSteps.{not_wide, wide_now}
 use Rattle.bus_proofs.proofs.nodes.is_wide.Goals as goal
 
 pub returns-clause-yes : goal.returns-clause-yes

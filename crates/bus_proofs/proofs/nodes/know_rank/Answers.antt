@@ -1,5 +1,5 @@
 use Rattle.std.proofs.Common.{arith}
-use Rattle.bus_proofs.proofs.Trails.{further_then, known_next, next_below}
+use Rattle.bus_proofs.proofs.RoomSteps.{further_then, known_next, next_below}
 use Rattle.bus_proofs.proofs.nodes.know_rank.Goals as goal
 
 pub returns-clause-further : goal.returns-clause-further

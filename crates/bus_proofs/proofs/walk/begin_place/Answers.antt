@@ -1,4 +1,4 @@
-use Rattle.bus_proofs.proofs.Trails.{room_next}
+use Rattle.bus_proofs.proofs.RoomSteps.{room_next}
 use Rattle.bus_proofs.proofs.WalkSteps.{place_begun}
 use Rattle.bus_proofs.proofs.walk.begin_place.Goals as goal
 

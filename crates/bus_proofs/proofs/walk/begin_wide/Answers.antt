@@ -1,7 +1,7 @@
 use Rattle.std.proofs.Common.{refl}
-use Rattle.bus_proofs.specs.Bases.{limits_of}
+use Rattle.leaf_bounds.specs.Bases.{limits_of}
 use Rattle.bus_proofs.specs.Cases.{with_rank}
-use Rattle.bus_proofs.proofs.Trails.{further_then, narrow_within, room_next}
+use Rattle.bus_proofs.proofs.RoomSteps.{further_then, narrow_within, room_next}
 use Rattle.bus_proofs.proofs.WalkSteps.{wide_begun, wide_room}
 use Rattle.bus_proofs.proofs.walk.begin_wide.Goals as goal
 

@@ -1,5 +1,5 @@
-use Rattle.bus_proofs.specs.Bases.{limits_of}
-use Rattle.bus_proofs.proofs.Trails.{room_next, tightened_within}
+use Rattle.leaf_bounds.specs.Bases.{limits_of}
+use Rattle.bus_proofs.proofs.RoomSteps.{room_next, tightened_within}
 use Rattle.bus_proofs.proofs.WalkSteps.{at_here}
 use Rattle.bus_proofs.proofs.walk.check_node.Goals as goal
 

@@ -3,9 +3,9 @@ use Rattle.std.proofs.lemmas.List.{length-map}
 use Rattle.std.proofs.lemmas.Option.{slice_get_within}
 use Rattle.proof_model.specs.Proofs.{node_value}
 use Rattle.bus_proofs.specs.Bounds.{all_cases}
-use Rattle.bus_proofs.specs.Bases.{chip_of, limits_of}
+use Rattle.leaf_bounds.specs.Bases.{chip_of, limits_of}
 use Rattle.bus_proofs.specs.Walks.{GoesOn, IsEnoughFor, IsJudged}
-use Rattle.bus_proofs.proofs.Trails.{further_none}
+use Rattle.bus_proofs.proofs.RoomSteps.{further_none}
 use Rattle.bus_proofs.proofs.WalkSteps.{cases_long, enough_more, faulty, next_is, starts, work_more}
 use Rattle.bus_proofs.proofs.walk.check_nodes.Goals as goal
 

@@ -1,8 +1,8 @@
 use Rattle.std.proofs.Common.{◌≡◌, ◌≤◌, drop}
 use Rattle.proof_model.specs.Proofs.{CaseTree, nodes_of}
 use Rattle.bus_proofs.specs.Bounds.{all_cases}
-use Rattle.bus_proofs.specs.CaseRooms.{IsFurther}
-use Rattle.bus_proofs.specs.Bases.{chip_of, limits_of, proof_of}
+use Rattle.leaf_bounds.specs.CaseRooms.{IsFurther}
+use Rattle.leaf_bounds.specs.Bases.{chip_of, limits_of, proof_of}
 use Rattle.bus_proofs.specs.Walks.{FitsLeaves, GoesOn, IsRoomFor}
 use Rattle.bus_proofs.proofs.WalkSteps.{AreEnoughBefore, work_before}
 use Rattle.bus_proofs.proofs.walk.check_nodes.Given as goal

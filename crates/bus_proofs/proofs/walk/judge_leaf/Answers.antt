@@ -1,6 +1,6 @@
 use Rattle.std.proofs.Common.{refl, ap, length}
 use Rattle.proof_model.specs.Proofs.{OfSum, weights_value}
-use Rattle.bus_proofs.proofs.PackAnswers.{fits_after}
+use Rattle.bus_proofs.proofs.ProofChecks.{fits_after}
 use Rattle.bus_proofs.proofs.walk.judge_leaf.Goals as goal
 
 pub check_leaf-answer-requires-clause-few : goal.check_leaf-answer-requires-clause-few

@@ -1,6 +1,6 @@
 use Rattle.std.proofs.Common.{refl}
 use Rattle.proof_model.specs.Proofs.{OfPack, pricing_value}
-use Rattle.bus_proofs.proofs.PackAnswers.{fits_after}
+use Rattle.bus_proofs.proofs.ProofChecks.{fits_after}
 use Rattle.bus_proofs.proofs.walk.judge_pack.Goals as goal
 
 pub check_pack-answer-requires-clause-few : goal.check_pack-answer-requires-clause-few

@@ -1,7 +1,7 @@
 use Rattle.std.proofs.Common.{◌≤◌, List}
-use Rattle.bus_proofs.specs.declared.case.CaseRoom.{CaseRoom}
+use Rattle.leaf_bounds.specs.declared.case.CaseRoom.{CaseRoom}
 use Rattle.bus_proofs.specs.Cases.{NodeCase}
-use Rattle.bus_proofs.specs.CaseRooms.{IsFurther}
+use Rattle.leaf_bounds.specs.CaseRooms.{IsFurther}
 use Rattle.bus_proofs.specs.Walks.{Awaits, IsRoomFor}
 use Rattle.bus_proofs.proofs.walk.next_branch.Given as goal
 

@@ -1,5 +1,5 @@
-use Rattle.bus_proofs.specs.Bases.{limits_of}
-use Rattle.bus_proofs.proofs.Trails.{room_next, wide_within}
+use Rattle.leaf_bounds.specs.Bases.{limits_of}
+use Rattle.bus_proofs.proofs.RoomSteps.{room_next, wide_within}
 use Rattle.bus_proofs.proofs.walk.take_second.Goals as goal
 
 pub returns-in-Wide-clause-room : goal.returns-in-Wide-clause-room

@@ -2,8 +2,9 @@ use Rattle.std.proofs.Common.{◌∙◌, ℕ, Ok, ap, length, sym, subst}
 use Rattle.std.proofs.lemmas.List.{length-replicate}
 use Rattle.resource_table.specs.Schedules.{TableValue}
 use Rattle.arch_search.specs.declared.state.State.{State}
-use Rattle.arch_search.specs.Problems.{IsProblem, IsStateOf}
-use Rattle.arch_search.specs.Rooms.{HasRoom}
+use Rattle.arch_schedule.specs.Problems.{IsProblem}
+use Rattle.arch_search.specs.States.{IsStateOf}
+use Rattle.arch_schedule.specs.Rooms.{HasRoom}
 use Rattle.arch_search.proofs.Searching.{at_ok, is_search}
 use Rattle.arch_search.proofs.search.Search.with_states.Goals as goal
 

@@ -6,13 +6,14 @@ use Rattle.plan_model.specs.Views.{limits_value}
 use Rattle.proof_model.specs.declared.Node.{Node}
 use Rattle.bus_proofs.specs.Walks.{named_in}
 use Rattle.proof_model.specs.Proofs.{LeafValue, OfLeaf, node_value, proof_value}
-use Rattle.bus_proofs.proofs.ProofChecks.{few_modules, new_room}
+use Rattle.leaf_bounds.proofs.LeafAnswers.{few_modules}
+use Rattle.bus_proofs.proofs.ProofChecks.{new_room}
 use Rattle.bus_proofs.proofs.check.ProofRoom.with_resolved.Goals as goal
 
 pub new-requires-2-clause-modules : goal.new-requires-2-clause-modules
 new-requires-2-clause-modules c =
     let long : c.len.result ≡ length (soc_value c.args.soc.now).modules = c.len.ensures.len ∙ sym (length-map c.args.soc.now.modules.entries (λ (e : ℕ × Module). module_value e.1)) in
-    omega (arith, long, few_modules (soc_value c.args.soc.now) c.requires.sound.size)
+    omega (arith, long, few_modules c.requires.sound)
 
 pub invariant_of-result : goal.invariant_of-result
 invariant_of-result c =

@@ -1,0 +1,10 @@
+use Rattle.std.proofs.Common.{length}
+use Rattle.arch_schedule.proofs.Listing.{long_more, all_more}
+use Rattle.arch_schedule.specs.Times.{IsRanking}
+use Rattle.arch_schedule.proofs.times.rankings_of.Goals as goal
+
+pub loop-width-preserved : goal.loop-width-preserved
+loop-width-preserved c = record {
+  long = long_more c.push.new.to.items c.loop-width.rankings.items _ c.loop-width.width c.in_ok-push.ensures.ok c.loop-width.invariant.long;
+  rankings = all_more (IsRanking (length c.args.problem.now.modules.items)) c.push.new.to.items c.loop-width.rankings.items _ c.in_ok-push.ensures.ok c.loop-width.invariant.rankings c.in_ok-ranking.ensures;
+}

@@ -1,0 +1,4 @@
+pub mod Problems
+pub mod Times
+pub mod Buses
+pub mod Rooms

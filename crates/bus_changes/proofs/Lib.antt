@@ -1,0 +1,2 @@
+pub mod KindTable
+pub mod Alike

@@ -1,6 +1,0 @@
-use Rattle.std.proofs.Common.{refl}
-use Rattle.bus_proofs.proofs.Takings.{after_none}
-use Rattle.bus_proofs.proofs.case.CaseRoom.widen.Goals as goal
-
-pub returns-clause-further : goal.returns-clause-further
-returns-clause-further c = record { widths = c.widen_ranks.ensures.later; ranks = after_none c.args.self.now.ranks; modules = refl }

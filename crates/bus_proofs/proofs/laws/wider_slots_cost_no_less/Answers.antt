@@ -1,5 +1,0 @@
-use Rattle.bus_proofs.proofs.LikeBuses.{wider_costs}
-use Rattle.bus_proofs.proofs.laws.wider_slots_cost_no_less.Goals as goal
-
-pub returns : goal.returns
-returns c = wider_costs c.packed_times_are_least.ensures.falls

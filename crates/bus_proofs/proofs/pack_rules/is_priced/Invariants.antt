@@ -1,6 +1,0 @@
-use Rattle.std.proofs.Common.{◌≡◌, ◌<◌, ℕ, slice_index}
-use Rattle.bus_proofs.specs.PackLeaves.{numbers_priced}
-use Rattle.bus_proofs.proofs.pack_rules.is_priced.Given as goal
-
-abbrev pub invariant-loop-at : goal.invariant-loop-at
-invariant-loop-at l = (q : ℕ) → q < l.at → slice_index (numbers_priced l.prices) q ≡ l.number → ⊥

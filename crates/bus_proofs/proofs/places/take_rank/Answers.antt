@@ -1,5 +1,0 @@
-use Rattle.bus_proofs.proofs.Bits.{bit_within}
-use Rattle.bus_proofs.proofs.places.take_rank.Goals as goal
-
-pub take_away-requires-clause-at : goal.take_away-requires-clause-at
-take_away-requires-clause-at c = bit_within c.args.rank c.requires.at c.requires.rank

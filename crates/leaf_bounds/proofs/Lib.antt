@@ -1,0 +1,17 @@
+pub mod TestNames
+pub mod WeighedSums
+pub mod Rows
+pub mod LikeBuses
+pub mod Trails
+pub mod Takings
+pub mod Bits
+pub mod TestTables
+pub mod LeafSums
+pub mod LeafTests
+pub mod LeafSlots
+pub mod LeafAnswers
+pub mod ListRows
+pub mod Priced
+pub mod PackSteps
+pub mod PackAnswers
+pub mod Totals
