@@ -18,7 +18,7 @@ use commands::{Status, TopCall, top_call};
 use made_data::make_data;
 use outside::{Shelf, Sink};
 use plan_improver::improve;
-use plan_picture::draw;
+use plan_picture::draw_plan;
 use plan_report::report_plan;
 use plan_simulator::simulate;
 use retargeter::retarget;
@@ -64,7 +64,7 @@ pub fn run_command<H: Shelf, K: Sink, T: Sink>(
 {
     match top_call(words) {
         TopCall::Improve => improve(alloc, words, shelf, out, progress),
-        TopCall::Picture => draw(alloc, words, shelf, out),
+        TopCall::Picture => draw_plan(alloc, words, shelf, out),
         TopCall::Simulate => simulate(alloc, words, shelf, out),
         TopCall::Bound => check_bound(alloc, words, shelf, out),
         TopCall::Prove => prove_bound(alloc, words, shelf, out, progress),

@@ -125,7 +125,7 @@ pub record IsNow (s : SteppedLane) (cycle : ℕ) : Type 0 where
   pub is : IsMoment s.lane.phases (cycle - s.lane.start) s.moment
   pub page : (n k : ℕ) → moment_ahead s.moment ≡ Some (n, k) → s.page ≡ Some (record { pattern = k; first = n - n % 64 })
 
--- the same test with the same bits, at another moment
+-- a lane of one test with its bits, at another moment
 pub record IsSameTest (old new : SteppedLane) : Type 0 where
   pub lane : new.lane ≡ old.lane
   pub rings : new.rings ≡ old.rings

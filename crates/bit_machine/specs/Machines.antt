@@ -21,7 +21,7 @@ pub record AreLanes (Is : PlannedTest → Lane → Type 0) (tests : List Planned
   pub long : length lanes ≡ length tests
   pub lane : (i : ℕ) (t : PlannedTest) (l : Lane) → IsAt tests i t → slice_get lanes i ≡ Some l → Is t l
 
--- the same, stepped
+-- the stepped lanes of the tests, in their order
 pub record AreStepped (content : Content) (tests : List PlannedTest) (lanes : List SteppedLane) : Type 0 where
   pub long : length lanes ≡ length tests
   pub lane : (i : ℕ) (t : PlannedTest) (s : SteppedLane) → IsAt tests i t → slice_get lanes i ≡ Some s → IsLane content t s.lane
@@ -118,7 +118,7 @@ pub record IsWireStep (content : Content) (tests : List PlannedTest) (c w : ℕ)
       bits_at new i j ≡ next_bits (content.response t.id) (chain_at t j) (operation_at t c) drive (bits_at old i j)
   pub others : (i j : ℕ) (t : PlannedTest) → IsAt tests i t → j < length t.chains → t.first_wire + j ≢ w → bits_at new i j ≡ bits_at old i j
 
--- the same of the wires below a number
+-- what the chains on the wires below a number do in a cycle
 pub record AreWireSteps (content : Content) (tests : List PlannedTest) (c w : ℕ) (drive : ℕ → Bool) (old new : State) : Type 0 where
   pub done : (i j : ℕ) (t : PlannedTest) → IsAt tests i t → j < length t.chains → t.first_wire + j < w →
       bits_at new i j ≡ next_bits (content.response t.id) (chain_at t j) (operation_at t c) (drive (t.first_wire + j)) (bits_at old i j)

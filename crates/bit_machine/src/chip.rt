@@ -2,16 +2,22 @@
 ghost use Rattle.std.specs.Prelude.{◌≡◌, ℕ, ◌+◌, ◌<◌, false, true, length, slice_get, slice_index_or, IfOk, Some};
 ghost use Rattle.soc_model.specs.Chips.{soc_value};
 ghost use Rattle.soc_model.specs.SoundChips.{IsSoundChip};
-ghost use Rattle.plan_model.specs.Rules.{IsGoodAlone};
+ghost use Rattle.plan_model.specs.Plans.{planned};
+ghost use Rattle.plan_model.specs.Rules.{IsGoodAlone, live_ids};
 ghost use Rattle.plan_model.specs.Runs.{step};
 ghost use Rattle.plan_model.specs.Views.{plan_value};
+ghost use Rattle.live_tests.specs.Placed.{IsPlaced};
+ghost use Rattle.bit_machine.specs.Machines.{AreLanes};
+ghost use Rattle.bit_machine.specs.Paths.{made_keys};
+ghost use Rattle.bit_machine.specs.Placed.{IsPlacedLane};
 ghost use Rattle.bit_machine.specs.Chips.{at_first, wires_of, carried_bits, shown_bits, chip_content, chip_tests, IsCompared, captures_at, right_loads_at};
 
+use crate::lane::Lane;
 use crate::machine::Machine;
 use crate::made::MadeContents;
-use crate::placing::{cycles_of, placed_lanes};
+use crate::placing::{cycles_of, placed_lanes, plan_of, soc_of};
 use crate::stepped::resting_lanes;
-use live_tests::first_wires;
+use live_tests::{LiveTests, Placed, PlacedPlan, first_wires};
 use outside::NoMemory;
 use plan_model::Plan;
 use soc_model::Soc;
@@ -69,6 +75,51 @@ fn nobody(alloc: Global, wires: usize) -> Result<Vec<Option<usize>>, NoMemory>
     Ok(vec![in alloc; None; wires]?)
 }
 
+/// The live tests of a placed plan, by the made contents of a seed.
+fn made_lanes(alloc: Global, placed: &PlacedPlan<'_>, seed: u64) -> Result<Vec<Lane>, NoMemory>
+    ensures { IfOk result (λ lanes. AreLanes (IsPlacedLane (made_keys seed) placed.now.soc placed.now.plan)
+        (planned placed.now.soc placed.now.plan) lanes.items) }
+{
+    let firsts = first_wires(alloc, plan_of(placed))?;
+    placed_lanes(alloc, placed, &MadeContents { seed }, &firsts)
+}
+
+/// The live tests of a good plan, by the made contents of a seed, where what the plan says by place is at hand.
+fn lanes_by(
+    alloc: Global,
+    soc: &Soc,
+    plan: &Plan,
+    seed: u64,
+    names: &LiveTests,
+    places: &Placed,
+) -> Result<Vec<Lane>, NoMemory>
+    requires sound { IsSoundChip (soc_value soc.now) }
+    requires good { IsGoodAlone (soc_value soc.now) (plan_value plan.now) }
+    requires names { names.now ≡ live_ids (soc_value soc.now) }
+    requires places { IsPlaced (soc_value soc.now) (plan_value plan.now) places.now }
+    ensures { IfOk result (λ lanes. AreLanes (IsPlacedLane (made_keys seed) (soc_value soc.now) (plan_value plan.now))
+        (planned (soc_value soc.now) (plan_value plan.now)) lanes.items) }
+{
+    let placed = PlacedPlan::new(soc, plan, names, places);
+    made_lanes(alloc, &placed, seed)
+}
+
+/// Places a good plan, and makes its live tests by the made contents of a seed.
+fn lanes_of(alloc: Global, soc: &Soc, plan: &Plan, seed: u64) -> Result<Vec<Lane>, NoMemory>
+    requires sound { IsSoundChip (soc_value soc.now) }
+    requires good { IsGoodAlone (soc_value soc.now) (plan_value plan.now) }
+    ensures { IfOk result (λ lanes. AreLanes (IsPlacedLane (made_keys seed) (soc_value soc.now) (plan_value plan.now))
+        (planned (soc_value soc.now) (plan_value plan.now)) lanes.items) }
+{
+    let names = LiveTests::new(alloc, soc)?;
+    let places = Placed::new(alloc, soc, plan)?;
+    let lanes = lanes_by(alloc, soc, plan, seed, &names, &places);
+    // dropped by calls: the end of the scope would drop each of their parts, and be proved for each
+    drop(names);
+    drop(places);
+    lanes
+}
+
 impl<'a> Chip<'a> {
     /// A chip with its plan, before any cycle: bit 0 in each cell, and the made contents of a seed.
     pub fn new(alloc: Global, soc: &'a Soc, plan: &'a Plan, seed: u64) -> Result<Chip<'a>, NoMemory>
@@ -76,10 +127,36 @@ impl<'a> Chip<'a> {
         requires good { IsGoodAlone (soc_value soc.now) (plan_value plan.now) }
         ensures { IfOk result (λ chip. chip ≡ at_first (soc_value soc.now) (plan_value plan.now) seed) }
     {
+        let lanes = lanes_of(alloc, soc, plan, seed)?;
+        Chip::with_lanes(alloc, soc, plan, seed, lanes)
+    }
+
+    /// A chip with a plan that is placed, before any cycle: bit 0 in each cell, and the made contents of a seed.
+    pub fn of(alloc: Global, placed: &PlacedPlan<'a>, seed: u64) -> Result<Chip<'a>, NoMemory>
+        ensures { IfOk result (λ chip. chip ≡ at_first placed.now.soc placed.now.plan seed) }
+    {
+        let lanes = made_lanes(alloc, placed, seed)?;
+        let (soc, plan) = (soc_of(placed), plan_of(placed));
+        Chip::with_lanes(alloc, soc, plan, seed, lanes)
+    }
+
+    /// A chip whose live tests are at hand.
+    fn with_lanes(
+        alloc: Global,
+        soc: &'a Soc,
+        plan: &'a Plan,
+        seed: u64,
+        lanes: Vec<Lane>,
+    ) -> Result<Chip<'a>, NoMemory>
+        requires sound { IsSoundChip (soc_value soc.now) }
+        requires good { IsGoodAlone (soc_value soc.now) (plan_value plan.now) }
+        requires lanes { AreLanes (IsPlacedLane (made_keys seed) (soc_value soc.now) (plan_value plan.now))
+            (planned (soc_value soc.now) (plan_value plan.now)) lanes.items }
+        ensures { IfOk result (λ chip. chip ≡ at_first (soc_value soc.now) (plan_value plan.now) seed) }
+    {
         let firsts = first_wires(alloc, plan)?;
         let wires = firsts[plan.buses.len()] as usize;
         let users = nobody(alloc, wires)?;
-        let lanes = placed_lanes(alloc, soc, plan, &MadeContents { seed }, &firsts)?;
         let stepped = resting_lanes(alloc, lanes)?;
         let machine = Machine::new(stepped, users);
         Ok(Chip {

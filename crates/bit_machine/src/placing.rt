@@ -20,7 +20,7 @@ use crate::contents::Contents;
 use crate::lane::Lane;
 use crate::layout::Layout;
 use crate::path::Path;
-use live_tests::{ModeWrappers, PlacedTest, PlanIndex, PlannedChip};
+use live_tests::{ModeWrappers, PlacedPlan, PlacedTest};
 use outside::{NoMemory, push};
 use plan_model::{Phases, Plan, Wrapper};
 use soc_model::{Module, Soc, Test, TestId, live, module_at};
@@ -31,6 +31,22 @@ pub fn cycles_of(plan: &Plan) -> u64
     ensures { result ≡ (plan_value plan.now).cycles }
 {
     plan.cycles
+}
+
+/// The chip of a placed plan.
+pub fn soc_of<'a>(placed: &PlacedPlan<'a>) -> &'a Soc
+    ensures { soc_value result.now ≡ placed.now.soc }
+{
+    placed.soc
+}
+
+/// The plan of a placed plan. The call tells that it is good, and its chip sound.
+pub fn plan_of<'a>(placed: &PlacedPlan<'a>) -> &'a Plan
+    ensures plan { plan_value result.now ≡ placed.now.plan }
+    ensures sound { IsSoundChip placed.now.soc }
+    ensures good { IsGoodAlone placed.now.soc placed.now.plan }
+{
+    placed.plan
 }
 
 /// A self test, which has no chains.
@@ -84,22 +100,22 @@ struct WrappedTest<'a> {
     test: &'a Test,
 }
 
-/// A chip and a good plan for it, and the first wires of the plan's buses.
+/// A placed plan, and the first wires of its buses.
 #[derive(Clone, Copy, Drop)]
 struct Setting<'a> {
-    chip: PlannedChip<'a>,
+    placed: &'a PlacedPlan<'a>,
     firsts: &'a [u64],
 }
 
 impl<'a> Setting<'a> {
     /// The first wire of a bus, and how many it has.
     fn bus_wires(&self, bus: usize) -> (usize, usize)
-        requires firsts { AreFirstWires (widths self.now.chip.index.now) self.now.firsts.now }
-        requires bus { bus < length self.now.chip.index.now.buses }
-        ensures first { result.0 ≡ sum (take bus (widths self.now.chip.index.now)) }
-        ensures width { result.1 ≡ slice_index (widths self.now.chip.index.now) bus }
+        requires firsts { AreFirstWires (widths self.now.placed.now.plan) self.now.firsts.now }
+        requires bus { bus < length self.now.placed.now.plan.buses }
+        ensures first { result.0 ≡ sum (take bus (widths self.now.placed.now.plan)) }
+        ensures width { result.1 ≡ slice_index (widths self.now.placed.now.plan) bus }
     {
-        let plan = self.chip.index.plan();
+        let plan = plan_of(self.placed);
         (self.firsts[bus] as usize, plan.buses[bus].width as usize)
     }
 
@@ -112,29 +128,28 @@ impl<'a> Setting<'a> {
         placed: &PlacedTest,
         bus: usize,
     ) -> Result<Lane, NoMemory>
-        requires sound { IsSoundChip (soc_value self.now.chip.soc.now) }
-        requires good { IsGoodAlone (soc_value self.now.chip.soc.now) self.now.chip.index.now }
-        requires firsts { AreFirstWires (widths self.now.chip.index.now) self.now.firsts.now }
-        requires module_there { slice_get (soc_value self.now.chip.soc.now).modules wrapped.now.core.place
+        requires firsts { AreFirstWires (widths self.now.placed.now.plan) self.now.firsts.now }
+        requires module_there { slice_get self.now.placed.now.soc.modules wrapped.now.core.place
             ≡ Some (module_value wrapped.now.core.«module».now) }
-        requires wrappers { AreModeWrappers self.now.chip.index.now
+        requires wrappers { AreModeWrappers self.now.placed.now.plan
             (module_value wrapped.now.core.«module».now) wrapped.now.core.wrappers.now }
         requires test_there { slice_get wrapped.now.core.«module».now.tests.items wrapped.now.at ≡ Some wrapped.now.test.now }
         requires live { IsTrue (is_live wrapped.now.test.now) }
         requires placed { placed.now
-            ≡ placed_of (planned_test self.now.chip.index.now wrapped.now.core.place
+            ≡ placed_of (planned_test self.now.placed.now.plan wrapped.now.core.place
             (module_value wrapped.now.core.«module».now) wrapped.now.test.now) }
         requires over { placed.now.bus ≡ Some bus }
-        ensures { IfOk result (IsPlacedLane (C.keys contents.now) (soc_value self.now.chip.soc.now) self.now.chip.index.now
-            (planned_test self.now.chip.index.now wrapped.now.core.place
+        ensures { IfOk result (IsPlacedLane (C.keys contents.now) self.now.placed.now.soc self.now.placed.now.plan
+            (planned_test self.now.placed.now.plan wrapped.now.core.place
             (module_value wrapped.now.core.«module».now) wrapped.now.test.now)) }
     {
         let (core, test) = (wrapped.core, wrapped.test);
         let module = core.module;
+        let plan = plan_of(self.placed);
         let Some(long) = core.wrappers.in_mode(test.scan) else {
             unreachable!()
         };
-        let wrapper = &self.chip.index.plan().wrappers[long.place];
+        let wrapper = &plan.wrappers[long.place];
         let paths = wrapped_paths(alloc, module, wrapper)?;
         let phases = Phases {
             setup: module.setup,
@@ -168,18 +183,16 @@ impl<'a> Setting<'a> {
         at: usize,
         test: &Test,
     ) -> Result<Lane, NoMemory>
-        requires sound { IsSoundChip (soc_value self.now.chip.soc.now) }
-        requires good { IsGoodAlone (soc_value self.now.chip.soc.now) self.now.chip.index.now }
-        requires firsts { AreFirstWires (widths self.now.chip.index.now) self.now.firsts.now }
-        requires module_there { slice_get (soc_value self.now.chip.soc.now).modules core.now.place
+        requires firsts { AreFirstWires (widths self.now.placed.now.plan) self.now.firsts.now }
+        requires module_there { slice_get self.now.placed.now.soc.modules core.now.place
             ≡ Some (module_value core.now.«module».now) }
-        requires wrappers { AreModeWrappers self.now.chip.index.now (module_value core.now.«module».now) core.now.wrappers.now }
+        requires wrappers { AreModeWrappers self.now.placed.now.plan (module_value core.now.«module».now) core.now.wrappers.now }
         requires test_there { slice_get core.now.«module».now.tests.items at ≡ Some test.now }
         requires live { IsTrue (is_live test.now) }
-        ensures { IfOk result (IsPlacedLane (C.keys contents.now) (soc_value self.now.chip.soc.now) self.now.chip.index.now
-            (planned_test self.now.chip.index.now core.now.place (module_value core.now.«module».now) test.now)) }
+        ensures { IfOk result (IsPlacedLane (C.keys contents.now) self.now.placed.now.soc self.now.placed.now.plan
+            (planned_test self.now.placed.now.plan core.now.place (module_value core.now.«module».now) test.now)) }
     {
-        let placed = self.chip.test(core.place, core.module, core.wrappers, test);
+        let placed = self.placed.test(core.place, core.module, test);
         match placed.bus {
             Some(bus) => {
                 let wrapped = WrappedTest {
@@ -203,17 +216,15 @@ impl<'a> Setting<'a> {
         at: usize,
         test: &Test,
     ) -> Result<(), NoMemory>
-        requires sound { IsSoundChip (soc_value self.now.chip.soc.now) }
-        requires good { IsGoodAlone (soc_value self.now.chip.soc.now) self.now.chip.index.now }
-        requires firsts { AreFirstWires (widths self.now.chip.index.now) self.now.firsts.now }
-        requires module_there { slice_get (soc_value self.now.chip.soc.now).modules core.now.place
+        requires firsts { AreFirstWires (widths self.now.placed.now.plan) self.now.firsts.now }
+        requires module_there { slice_get self.now.placed.now.soc.modules core.now.place
             ≡ Some (module_value core.now.«module».now) }
-        requires wrappers { AreModeWrappers self.now.chip.index.now (module_value core.now.«module».now) core.now.wrappers.now }
+        requires wrappers { AreModeWrappers self.now.placed.now.plan (module_value core.now.«module».now) core.now.wrappers.now }
         requires test_there { slice_get core.now.«module».now.tests.items at ≡ Some test.now }
         ensures { (done : List PlannedTest) →
-            AreLanes (IsPlacedLane (C.keys contents.now) (soc_value self.now.chip.soc.now) self.now.chip.index.now) done lanes.old.items →
-            OnOk result (AreLanes (IsPlacedLane (C.keys contents.now) (soc_value self.now.chip.soc.now) self.now.chip.index.now)
-            (done ++ planned_in self.now.chip.index.now core.now.place (module_value core.now.«module».now) (test.now ∷ []))
+            AreLanes (IsPlacedLane (C.keys contents.now) self.now.placed.now.soc self.now.placed.now.plan) done lanes.old.items →
+            OnOk result (AreLanes (IsPlacedLane (C.keys contents.now) self.now.placed.now.soc self.now.placed.now.plan)
+            (done ++ planned_in self.now.placed.now.plan core.now.place (module_value core.now.«module».now) (test.now ∷ []))
             lanes.new.items) }
     {
         if !live(test) {
@@ -222,7 +233,7 @@ impl<'a> Setting<'a> {
         push(lanes, self.lane_of(alloc, contents, core, at, test)?)
     }
 
-    /// Adds the live tests of the module at a place. Its wrappers are found and walked once.
+    /// Adds the live tests of the module at a place.
     fn push_module<C: Contents>(
         &self,
         alloc: Global,
@@ -231,16 +242,14 @@ impl<'a> Setting<'a> {
         module: &Module,
         place: usize,
     ) -> Result<(), NoMemory>
-        requires sound { IsSoundChip (soc_value self.now.chip.soc.now) }
-        requires good { IsGoodAlone (soc_value self.now.chip.soc.now) self.now.chip.index.now }
-        requires firsts { AreFirstWires (widths self.now.chip.index.now) self.now.firsts.now }
-        requires module_there { slice_get (soc_value self.now.chip.soc.now).modules place ≡ Some (module_value «module».now) }
+        requires firsts { AreFirstWires (widths self.now.placed.now.plan) self.now.firsts.now }
+        requires module_there { slice_get self.now.placed.now.soc.modules place ≡ Some (module_value «module».now) }
         ensures { (done : List PlannedTest) →
-            AreLanes (IsPlacedLane (C.keys contents.now) (soc_value self.now.chip.soc.now) self.now.chip.index.now) done lanes.old.items →
-            OnOk result (AreLanes (IsPlacedLane (C.keys contents.now) (soc_value self.now.chip.soc.now) self.now.chip.index.now)
-            (done ++ planned_in self.now.chip.index.now place (module_value «module».now) «module».now.tests.items) lanes.new.items) }
+            AreLanes (IsPlacedLane (C.keys contents.now) self.now.placed.now.soc self.now.placed.now.plan) done lanes.old.items →
+            OnOk result (AreLanes (IsPlacedLane (C.keys contents.now) self.now.placed.now.soc self.now.placed.now.plan)
+            (done ++ planned_in self.now.placed.now.plan place (module_value «module».now) «module».now.tests.items) lanes.new.items) }
     {
-        let wrappers = ModeWrappers::new(self.chip.soc, self.chip.index, place, module);
+        let wrappers = self.placed.wrappers(place);
         let core = WrappedModule {
             place,
             module,
@@ -254,22 +263,15 @@ impl<'a> Setting<'a> {
 
     /// The live tests of the chip, in its order.
     fn lanes<C: Contents>(&self, alloc: Global, contents: &C) -> Result<Vec<Lane>, NoMemory>
-        requires sound { IsSoundChip (soc_value self.now.chip.soc.now) }
-        requires good { IsGoodAlone (soc_value self.now.chip.soc.now) self.now.chip.index.now }
-        requires firsts { AreFirstWires (widths self.now.chip.index.now) self.now.firsts.now }
+        requires firsts { AreFirstWires (widths self.now.placed.now.plan) self.now.firsts.now }
         ensures { IfOk result (λ lanes.
-            AreLanes (IsPlacedLane (C.keys contents.now) (soc_value self.now.chip.soc.now) self.now.chip.index.now)
-            (planned (soc_value self.now.chip.soc.now) self.now.chip.index.now) lanes.items) }
+            AreLanes (IsPlacedLane (C.keys contents.now) self.now.placed.now.soc self.now.placed.now.plan)
+            (planned self.now.placed.now.soc self.now.placed.now.plan) lanes.items) }
     {
+        let soc = soc_of(self.placed);
         let mut lanes = Vec::new(alloc);
-        for place in 0..self.chip.soc.modules.len() {
-            self.push_module(
-                alloc,
-                contents,
-                &mut lanes,
-                module_at(self.chip.soc, place),
-                place,
-            )?;
+        for place in 0..soc.modules.len() {
+            self.push_module(alloc, contents, &mut lanes, module_at(soc, place), place)?;
         }
         Ok(lanes)
     }
@@ -277,26 +279,16 @@ impl<'a> Setting<'a> {
 
 /// The live tests of a chip in its order, as a good plan places them, by the keys that contents know them by. `firsts` has the first
 /// wire of each bus, and behind them the number of all wires.
-pub fn placed_lanes<'a, C: Contents>(
+pub fn placed_lanes<C: Contents>(
     alloc: Global,
-    soc: &'a Soc,
-    plan: &'a Plan,
+    placed: &PlacedPlan<'_>,
     contents: &C,
-    firsts: &'a [u64],
+    firsts: &[u64],
 ) -> Result<Vec<Lane>, NoMemory>
-    requires sound { IsSoundChip (soc_value soc.now) }
-    requires good { IsGoodAlone (soc_value soc.now) (plan_value plan.now) }
-    requires firsts { AreFirstWires (widths (plan_value plan.now)) firsts.now }
-    ensures { IfOk result (λ lanes. AreLanes (IsPlacedLane (C.keys contents.now) (soc_value soc.now) (plan_value plan.now))
-        (planned (soc_value soc.now) (plan_value plan.now)) lanes.items) }
+    requires { AreFirstWires (widths placed.now.plan) firsts.now }
+    ensures { IfOk result (λ lanes. AreLanes (IsPlacedLane (C.keys contents.now) placed.now.soc placed.now.plan)
+        (planned placed.now.soc placed.now.plan) lanes.items) }
 {
-    let index = PlanIndex::new(alloc, plan)?;
-    let setting = Setting {
-        chip: PlannedChip { soc, index: &index },
-        firsts,
-    };
-    let lanes = setting.lanes(alloc, contents);
-    // dropped by a call: the end of the scope would drop each of its parts, and be proved for each
-    drop(index);
-    lanes
+    let setting = Setting { placed, firsts };
+    setting.lanes(alloc, contents)
 }

@@ -1,23 +1,18 @@
 //! What a tester drives and compares on the wires of a plan, line by line.
 ghost use Rattle.std.specs.Prelude.{◌≡◌, ℕ, ◌+◌, ◌^◌, ◌<◌, length, IfOk};
-ghost use Rattle.soc_model.specs.Chips.{SocValue, soc_value};
-ghost use Rattle.soc_model.specs.SoundChips.{IsSoundChip};
+ghost use Rattle.soc_model.specs.Chips.{SocValue};
 ghost use Rattle.plan_model.specs.Plans.{PlanValue, planned};
-ghost use Rattle.plan_model.specs.Rules.{IsGoodAlone};
 ghost use Rattle.plan_model.specs.Runs.{Content};
-ghost use Rattle.plan_model.specs.Views.{plan_value};
 ghost use Rattle.bit_machine.specs.Chips.{wires_of};
 ghost use Rattle.bit_machine.specs.Placed.{StandFor};
 ghost use Rattle.bit_machine.specs.Vectors.{AreVectors, HaveRoom, IsLineOf, Marks};
 
 use crate::contents::Contents;
 use crate::lane::Lane;
-use crate::placing::placed_lanes;
+use crate::placing::{placed_lanes, plan_of};
 use crate::stretches::put_tests;
-use live_tests::first_wires;
+use live_tests::{PlacedPlan, first_wires};
 use outside::NoMemory;
-use plan_model::Plan;
-use soc_model::Soc;
 use std::alloc::Global;
 
 /// The vectors of a good plan. A vector is what stands on the wires at a cycle: the bit that each wire carries, and the mark of the
@@ -32,17 +27,15 @@ impl Vectors {
     /// The vectors of a good plan of a sound chip, for the contents that know its live tests by their keys. All memory is taken here.
     pub fn new<C: Contents>(
         alloc: Global,
-        soc: &Soc,
-        plan: &Plan,
+        placed: &PlacedPlan<'_>,
         contents: &C,
     ) -> Result<Vectors, NoMemory>
-        requires sound { IsSoundChip (soc_value soc.now) }
-        requires good { IsGoodAlone (soc_value soc.now) (plan_value plan.now) }
-        ensures { IfOk result (AreVectors (C.keys contents.now) (soc_value soc.now) (plan_value plan.now)) }
+        ensures { IfOk result (AreVectors (C.keys contents.now) placed.now.soc placed.now.plan) }
     {
+        let plan = plan_of(placed);
         let firsts = first_wires(alloc, plan)?;
         let wires = firsts[plan.buses.len()] as usize;
-        let lanes = placed_lanes(alloc, soc, plan, contents, &firsts)?;
+        let lanes = placed_lanes(alloc, placed, contents, &firsts)?;
         Ok(Vectors { wires, lanes })
     }
 

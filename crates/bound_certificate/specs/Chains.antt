@@ -31,7 +31,7 @@ pub record HasEarlier (nodes : List NodeValue) (place : ℕ) : Type 0 where
   pub at : slice_get nodes place ≡ Some n
   pub some : 1 ≤ length n.before
 
--- the same of a test below a place
+-- a test below a place that has one before it
 pub record HasEarlierBelow (nodes : List NodeValue) (below place : ℕ) : Type 0 where
   pub less : place < below
   pub has : HasEarlier nodes place

@@ -82,7 +82,7 @@ pub fn best_bound(alloc: Global, soc: &Soc, limits: &Limits, cycles: u64) -> Res
     best_bound_with(alloc, &problem, cycles)
 }
 
-/// The same bound of a problem.
+/// The planner's bound for a problem, as [`best_bound`] answers it.
 pub fn best_bound_with(alloc: Global, problem: &Problem<'_>, cycles: u64) -> Result<Bound, NoMemory>
     requires good { (n : ℕ) → IsBound problem.now.soc problem.now.limits n → n ≤ cycles }
     ensures best { IfOk result (λ bound. IsBestBound problem.now.soc problem.now.limits cycles (bound_value bound)) }

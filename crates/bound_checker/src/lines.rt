@@ -5,7 +5,7 @@ ghost use Rattle.commands.specs.Texts.{is_line};
 ghost use Rattle.bound_checker.specs.Texts.{bound_line as bound_text, proof_line as proof_line_text, proof_fault_line as proof_fault_text};
 
 use bus_proofs::ProofFault;
-use commands::{less_line, numbered};
+use commands::{less_line, number_line};
 use outside::NoMemory;
 use proof_model::Proof;
 use std::alloc::Global;
@@ -14,7 +14,7 @@ use std::alloc::Global;
 pub(crate) fn bound_line(alloc: Global, proof: &Proof) -> Result<Vec<u8>, NoMemory>
     ensures text { IfOk result (λ text. text.items ≡ bound_text (proof_value proof.now)) }
 {
-    numbered(alloc, b"bound ", u128::from(proof.claimed))
+    number_line(alloc, b"bound ", u128::from(proof.claimed))
 }
 
 /// `refused proof line` and the line.
@@ -22,7 +22,7 @@ pub fn proof_line(alloc: Global, line: u64) -> Result<Vec<u8>, NoMemory>
     ensures text { IfOk result (λ text. text.items ≡ proof_line_text line) }
     ensures line { IfOk result (λ text. IsTrue (is_line text.items)) }
 {
-    numbered(alloc, b"refused proof line ", u128::from(line))
+    number_line(alloc, b"refused proof line ", u128::from(line))
 }
 
 /// `refused proof` and the fault.
@@ -31,8 +31,8 @@ pub fn proof_fault_line(alloc: Global, fault: ProofFault) -> Result<Vec<u8>, NoM
     ensures line { IfOk result (λ text. IsTrue (is_line text.items)) }
 {
     match fault {
-        ProofFault::BadList { place } => numbered(alloc, b"refused proof list ", place as u128),
-        ProofFault::BadNode { place } => numbered(alloc, b"refused proof node ", place as u128),
+        ProofFault::BadList { place } => number_line(alloc, b"refused proof list ", place as u128),
+        ProofFault::BadNode { place } => number_line(alloc, b"refused proof node ", place as u128),
         ProofFault::Less {
             place,
             claimed,

@@ -1,3 +1,4 @@
 pub mod Answering
+pub mod EqualLists
 pub mod Nothing
 pub mod Printing

@@ -5,8 +5,9 @@ use Rattle.soc_model.specs.Chips.{SocValue}
 use Rattle.plan_model.specs.Plans.{LimitsValue}
 use Rattle.plan_model.specs.SoundLimits.{IsSoundLimits}
 use Rattle.proof_model.specs.Proofs.{WeightsValue, Leaf, OfSum, OfLeaf}
-use Rattle.bus_proofs.specs.Cases.{NodeCase, root_case, tightened, in_case, cases_of}
-use Rattle.bus_proofs.specs.Leaves.{IsKnownList, worth_of_cycle, LeafHolds}
+use Rattle.leaf_bounds.specs.Cases.{root_case, tightened}
+use Rattle.leaf_bounds.specs.Leaves.{IsKnownList, worth_of_cycle, LeafHolds}
+use Rattle.bus_proofs.specs.Cases.{NodeCase, in_case, cases_of}
 use Rattle.bus_proofs.specs.Bounds.{IsEnough, AreEnough, IsAccepted, all_cases}
 use Rattle.bound_prover.specs.Proved.{IsProved, no_claim}
 

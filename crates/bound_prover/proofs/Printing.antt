@@ -1,4 +1,4 @@
--- The text of the proof that claims nothing.
+-- The text of a proof that is kept, and that of the proof that claims nothing.
 use Rattle.std.proofs.Common.{◌≡◌, ℕ, ◌≤◌, List, [], ◌∷◌, Result, Ok, Err, IfOk, length, refl, sym, ap, ◌∙◌, subst, arith}
 use Rattle.std.specs.Global.{Vec}
 use Rattle.std.proofs.lemmas.List.Elements.{All-cons, All-nil}
@@ -12,8 +12,12 @@ use Rattle.proof_text.specs.ProofLines.{proof_text, proof_tokens}
 use Rattle.proof_model.specs.Sayable.{NamesTests, IsWeight, IsUse, HasWeights}
 use Rattle.proof_text.specs.Grammar.{IsInRange}
 use Rattle.proof_text.specs.Answers.{IsReadAgain}
+use Rattle.proof_text.proofs.PrintedProofs.{printed_is_read}
+use Rattle.soc_model.specs.Chips.{SocValue}
+use Rattle.plan_model.specs.Plans.{LimitsValue}
+use Rattle.bus_proofs.specs.Bounds.{IsAccepted}
 use Rattle.commands.specs.declared.TheConstants.{FILE_MOST}
-use Rattle.bound_prover.specs.Proved.{IsPrinted, IsReadable, no_claim}
+use Rattle.bound_prover.specs.Proved.{IsPrinted, IsProofText, IsReadable, no_claim}
 use Rattle.bound_prover.proofs.Nothing.{one_wire}
 
 -- without where its lists lie in memory
@@ -56,3 +60,17 @@ nothing_printed (Ok text) value is text_is again =
           says nothing_readable.said nothing_readable.range;
     }
 nothing_printed (Err fault) value is text_is again = tt
+
+-- the text of a proof that is kept, for a plan of at least one cycle
+pub kept_text : (soc : SocValue) (limits : LimitsValue) (cycles nodes : ℕ) (value : ProofValue) (text : List ℕ) → 1 ≤ cycles → text ≡ proof_text value →
+    IsReadable value → value.claimed ≤ cycles → length value.nodes ≤ nodes → length text ≤ FILE_MOST → IsAccepted soc limits value →
+    IsProofText soc limits cycles nodes (proof_text value)
+kept_text soc limits cycles nodes value text some text_is readable at_most few short accepted = (
+  value,
+  record { accepted = accepted; at_most = at_most; few = few; nothing = λ none. absurd (omega (arith, some, none)) },
+  record {
+    text_is = refl;
+    short = subst (λ (t : List ℕ). length t ≤ FILE_MOST) text_is short;
+    said = printed_is_read value readable.said readable.range;
+  },
+)

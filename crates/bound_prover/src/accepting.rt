@@ -3,8 +3,11 @@ ghost use Rattle.std.specs.Prelude.{◌≡◌, ◌≤◌, true, IfOk, IfSome};
 ghost use Rattle.proof_model.specs.Proofs.{proof_value};
 ghost use Rattle.proof_model.specs.Sayable.{MayBeSaid};
 ghost use Rattle.bus_proofs.specs.Bounds.{IsAccepted};
+ghost use Rattle.proof_text.specs.ProofLines.{proof_text};
 ghost use Rattle.bound_prover.specs.Proved.{IsPrinted, IsProofText, IsReadable, no_claim};
 
+use crate::choosing::FoundProof;
+use crate::comparing::equal_proof;
 use bus_proofs::{ProofRoom, check_proof};
 use commands::FILE_MOST;
 use live_tests::Problem;
@@ -13,13 +16,18 @@ use proof_model::{Node, Proof, Weights};
 use proof_text::{ProofTextFault, print_proof, read_proof};
 use std::alloc::Global;
 
-/// The proof that a text says; none where it says none.
-fn read_again(alloc: Global, text: &[u8]) -> Result<Option<Proof>, NoMemory>
-    ensures { IfOk result (λ proof. IfSome proof (λ p. IsReadable (proof_value p))) }
+/// Whether the text of a proof that was found says that proof, with its numbers in the grammar's range.
+fn reads_back(alloc: Global, found: &FoundProof) -> Result<bool, NoMemory>
+    ensures { IfOk result (λ yes. yes ≡ true → IsReadable found.now) }
 {
-    match read_proof(alloc, text) {
-        Ok(proof) => Ok(Some(proof)),
-        Err(ProofTextFault::Text { .. }) => Ok(None),
+    match read_proof(alloc, &found.text) {
+        Ok(proof) => {
+            let equal = equal_proof(&proof, &found.proof);
+            // dropped by a call: the end of the scope would drop each of its parts, and be proved for each
+            drop(proof);
+            Ok(equal)
+        }
+        Err(ProofTextFault::Text { .. }) => Ok(false),
         Err(ProofTextFault::NoMemory) => Err(NoMemory),
     }
 }
@@ -35,65 +43,49 @@ fn is_accepted(alloc: Global, problem: &Problem<'_>, proof: &Proof) -> Result<bo
     Ok(accepted)
 }
 
-/// The text of a proof, where it is no longer than a file may be.
-fn short_text(alloc: Global, proof: &Proof) -> Result<Option<Vec<u8>>, NoMemory>
-    requires { IsReadable (proof_value proof.now) }
-    ensures { IfOk result (λ text. IfSome text (λ t. IsPrinted (proof_value proof.now) t.items)) }
-{
-    let text = print_proof(alloc, proof)?;
-    if text.len() as u64 > FILE_MOST {
-        return Ok(None);
-    }
-    Ok(Some(text))
-}
-
-/// The text of a proof that was read, where it is accepted for a chip under limits, claims at most `cycles` cycles and has at most
-/// `nodes` nodes.
-fn text_of(
+/// Whether a proof that was found is accepted for a chip under limits, claims at most `cycles` cycles, has at most `nodes` nodes, and is
+/// said by its text, which is no longer than a file may be.
+fn is_kept(
     alloc: Global,
     problem: &Problem<'_>,
-    proof: &Proof,
+    found: &FoundProof,
     cycles: u64,
     nodes: u64,
-) -> Result<Option<Vec<u8>>, NoMemory>
-    requires proof { IsReadable (proof_value proof.now) }
+) -> Result<bool, NoMemory>
     requires some { 1 ≤ cycles }
-    ensures { IfOk result (λ text. IfSome text (λ t. IsProofText problem.now.soc problem.now.limits cycles nodes t.items)) }
+    ensures { IfOk result (λ yes. yes ≡ true → IsProofText problem.now.soc problem.now.limits cycles nodes (proof_text found.now)) }
 {
+    let proof = &found.proof;
     if proof.claimed > cycles {
-        return Ok(None);
+        return Ok(false);
     }
     if proof.nodes.len() as u64 > nodes {
-        return Ok(None);
+        return Ok(false);
     }
-    if !is_accepted(alloc, problem, proof)? {
-        return Ok(None);
+    if found.text.len() as u64 > FILE_MOST {
+        return Ok(false);
     }
-    short_text(alloc, proof)
+    if !reads_back(alloc, found)? {
+        return Ok(false);
+    }
+    is_accepted(alloc, problem, proof)
 }
 
 /// The text of a proof that was found, where it is accepted for a chip under limits, claims at most `cycles` cycles and has at
-/// most `nodes` nodes. It is judged as it is read again from its text.
+/// most `nodes` nodes, and what is read again from its text is equal to it.
 pub(crate) fn accepted_text(
     alloc: Global,
     problem: &Problem<'_>,
-    found: &Proof,
+    found: FoundProof,
     cycles: u64,
     nodes: u64,
 ) -> Result<Option<Vec<u8>>, NoMemory>
     requires some { 1 ≤ cycles }
     ensures { IfOk result (λ text. IfSome text (λ t. IsProofText problem.now.soc problem.now.limits cycles nodes t.items)) }
 {
-    let written = print_proof(alloc, found)?;
-    match read_again(alloc, written.as_slice())? {
-        Some(proof) => {
-            let text = text_of(alloc, problem, &proof, cycles, nodes);
-            // dropped by a call: the end of the scope would drop each of its parts, and be proved for each
-            drop(proof);
-            text
-        }
-        None => Ok(None),
-    }
+    let kept = is_kept(alloc, problem, &found, cycles, nodes);
+    let text = found.into_text();
+    if kept? { Ok(Some(text)) } else { Ok(None) }
 }
 
 /// The text of the proof that claims nothing, and is accepted for every chip.

@@ -6,6 +6,7 @@
 
 mod accepting;
 mod choosing;
+mod comparing;
 mod deciding;
 mod progress;
 mod proving;

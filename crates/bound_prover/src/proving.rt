@@ -9,7 +9,7 @@ ghost use Rattle.bound_prover.specs.Proved.{IsProofText};
 ghost use Rattle.bound_prover.specs.Reports.{MayReport};
 
 use crate::accepting::{accepted_text, nothing_text};
-use crate::choosing::better_of;
+use crate::choosing::{FoundProof, better_of};
 use crate::progress::run_reported;
 use commands::line_room;
 use live_tests::{Problem, Resolved};
@@ -20,15 +20,49 @@ use proof_search::Search;
 use soc_model::Soc;
 use std::alloc::Global;
 
-/// The proof, found by a search of up to `nodes` nodes with leaves Pack, that no good plan takes fewer than `cycles` cycles, or than
-/// as many as it can show; and whether a search without them may show more. Nothing is known of it.
-fn searched_packed<T: Sink>(
+/// What a search without leaves Pack finds, after one of up to `nodes` nodes whose tables it takes over. It reports nothing.
+fn searched_plain(alloc: Global, packed: Search, nodes: u64) -> Result<Proof, NoMemory> {
+    let mut search = packed.plain_again(alloc)?;
+    search.go_on(nodes);
+    let proof = search.proof(alloc);
+    search.free();
+    proof
+}
+
+/// The better proof of a search with leaves Pack, which is done, and of one without them, where that may show more of the goal, `cycles`
+/// cycles.
+fn found_by(
+    alloc: Global,
+    packed: Search,
+    cycles: u64,
+    nodes: u64,
+) -> Result<FoundProof, NoMemory> {
+    let is_open = packed.found_pack() && packed.claim() < cycles;
+    match packed.proof(alloc) {
+        Ok(proof) => {
+            if is_open {
+                return better_of(alloc, proof, searched_plain(alloc, packed, nodes));
+            }
+            packed.free();
+            FoundProof::new(alloc, proof)
+        }
+        Err(NoMemory) => {
+            packed.free();
+            Err(NoMemory)
+        }
+    }
+}
+
+/// The better proof of two searches of up to `nodes` nodes each that no good plan takes fewer than `cycles` cycles, or than as many as it
+/// can show. Nothing is known of it. Leaves Pack change the order in which cases are divided, and so which lists are found: each search
+/// can show what the other can't, and neither shows less with more nodes.
+fn searched<T: Sink>(
     alloc: Global,
     problem: &Problem<'_>,
     cycles: u64,
     nodes: u64,
     progress: &mut T,
-) -> Result<(Proof, bool), NoMemory>
+) -> Result<FoundProof, NoMemory>
     ensures faults_never_fall { T.faults progress.old ≤ T.faults progress.new }
     ensures quiet { nodes < REPORTED_FROM → progress.new ≡ progress.old }
     ensures reported { MayReport nodes (T.written progress.old) (T.written progress.new) }
@@ -36,41 +70,7 @@ fn searched_packed<T: Sink>(
     let mut line = line_room(alloc)?;
     let mut search = Search::new(alloc, problem, cycles, nodes, true)?;
     run_reported(&mut search, nodes, &mut line, progress);
-    let is_open = search.found_pack() && search.claim() < cycles;
-    let proof = search.proof(alloc)?;
-    Ok((proof, is_open))
-}
-
-/// What a search without leaves Pack finds. It reports nothing.
-fn searched_plain(
-    alloc: Global,
-    problem: &Problem<'_>,
-    cycles: u64,
-    nodes: u64,
-) -> Result<Proof, NoMemory> {
-    let mut search = Search::new(alloc, problem, cycles, nodes, false)?;
-    search.go_on(nodes);
-    search.proof(alloc)
-}
-
-/// The better proof of two searches of up to `nodes` nodes each. Leaves Pack change the order in which cases are divided, and so which
-/// lists are found: each search can show what the other can't, and neither shows less with more nodes.
-fn searched<T: Sink>(
-    alloc: Global,
-    problem: &Problem<'_>,
-    cycles: u64,
-    nodes: u64,
-    progress: &mut T,
-) -> Result<Proof, NoMemory>
-    ensures faults_never_fall { T.faults progress.old ≤ T.faults progress.new }
-    ensures quiet { nodes < REPORTED_FROM → progress.new ≡ progress.old }
-    ensures reported { MayReport nodes (T.written progress.old) (T.written progress.new) }
-{
-    let (packed, is_open) = searched_packed(alloc, problem, cycles, nodes, progress)?;
-    if !is_open {
-        return Ok(packed);
-    }
-    better_of(alloc, packed, searched_plain(alloc, problem, cycles, nodes))
+    found_by(alloc, search, cycles, nodes)
 }
 
 /// The text of the proof that claims nothing, for a problem.
@@ -101,10 +101,7 @@ pub fn proved_text<T: Sink>(
         return nothing_for(alloc, problem);
     }
     let found = searched(alloc, problem, cycles, nodes, progress)?;
-    let accepted = accepted_text(alloc, problem, &found, cycles, nodes);
-    // dropped by a call: the end of the scope would drop each of its parts, and be proved for each
-    drop(found);
-    match accepted? {
+    match accepted_text(alloc, problem, found, cycles, nodes)? {
         Some(text) => Ok(text),
         None => nothing_for(alloc, problem),
     }

@@ -113,7 +113,7 @@ module_bound_is soc w p m at =
     each t false = refl
     each t true = rw (eq-eqb p p refl) (sym (time_by_sizes m t w))
 
--- the same over the wires
+-- a test over the wires of another module
 elsewhere : (p : ℕ) (l : LiveTest) (n : ℕ) (tam : Bool) → l.place ≢ p → (if tam && is_of p l then n else 0) ≡ 0
 elsewhere p l n true other = rw (ne_eqb l.place p other) refl
 elsewhere p l n false other = refl

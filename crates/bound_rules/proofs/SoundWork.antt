@@ -16,7 +16,7 @@ use Rattle.bound_rules.proofs.Modules.{works_by-le}
 pub live_work-le : (soc : SocValue) → IsSoundChip soc → (p q : ℕ) (m : ModuleValue) (t : Test) → slice_get soc.modules p ≡ Some m → slice_get m.tests q ≡ Some t → is_live t ≡ true → test_work m t ≤ 10 ^ 18
 live_work-le soc sound p q m t at there live = omega (arith, test_work-le-at soc p q m t at there live, work-le soc sound.size)
 
--- the same by its place among the live tests
+-- of a live test, by its place among the live tests
 pub live_work-le_live : (soc : SocValue) → IsSoundChip soc → (k : ℕ) (l : LiveTest) → slice_get (live_tests soc) k ≡ Some l → test_work l.core l.test ≤ 10 ^ 18
 live_work-le_live soc sound k l at = omega (arith, test_work-le soc k l at, work-le soc sound.size)
 

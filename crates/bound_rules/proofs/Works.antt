@@ -119,7 +119,7 @@ next_time p s w (x ∷ ts) (suc i) t at yes' =
     let b : times_of p s w (x ∷ take i ts) ≡ (if p x then time_by s w x else 0) + times_of p s w (take i ts) = sum_by-cons (λ t. if p t then time_by s w t else 0) x (take i ts) in
     omega (arith, next_time p s w ts i t at yes')
 
--- the same of the test that stands at a place
+-- of the test that stands at a place
 pub work_at : (s : Sizes) (ts : List Test) (i : ℕ) (d : Test) → i < length ts → is_live (get_or ts i d) ≡ true → work_by s (get_or ts i d) ≤ works_by s ts
 work_at s ts i d within live = item_work s ts i (get_or ts i d) (slice_get-get_or ts i d within) live
 

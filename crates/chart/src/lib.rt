@@ -9,9 +9,10 @@ ghost use Rattle.soc_model.specs.Chips.{soc_value};
 ghost use Rattle.soc_model.specs.SoundChips.{IsSoundChip};
 ghost use Rattle.plan_model.specs.Rules.{IsGoodAlone, live_ids};
 ghost use Rattle.plan_model.specs.Views.{plan_value};
+ghost use Rattle.live_tests.specs.Placed.{IsPlaced, placed_tests};
 ghost use Rattle.chart.specs.ChartText.{is_marked, mark, bar, bus_text, times_text, bar_text, row_text, row_if, start_row, chart_text};
 
-use live_tests::{LiveTests, PlacedTest, PlacedTests};
+use live_tests::{LiveTests, Placed, PlacedPlan, PlacedTest};
 use outside::{NoMemory, extend, push_dotted, push_number};
 use plan_model::Plan;
 use soc_model::Soc;
@@ -110,11 +111,12 @@ fn push_found(text: &mut Vec<u8>, test: Option<PlacedTest>, cycles: u64) -> Resu
 }
 
 /// Appends the lines of all starts.
-fn push_rows(text: &mut Vec<u8>, tests: &PlacedTests<'_>, plan: &Plan) -> Result<(), NoMemory>
-    ensures { OnOk result (text.new.items ≡ text.old.items ++ flat_map (start_row plan.now.cycles tests.now) plan.now.starts.items) }
+fn push_rows(text: &mut Vec<u8>, placed: &PlacedPlan<'_>) -> Result<(), NoMemory>
+    ensures { OnOk result (text.new.items ≡ text.old.items
+        ++ flat_map (start_row placed.now.plan.cycles (placed_tests placed.now.soc placed.now.plan)) placed.now.plan.starts) }
 {
-    for (id, _) in &plan.starts {
-        push_found(text, tests.find(*id), plan.cycles)?;
+    for (id, _) in &placed.plan.starts {
+        push_found(text, placed.find(*id), placed.plan.cycles)?;
     }
     Ok(())
 }
@@ -128,25 +130,35 @@ pub fn print_chart(alloc: Global, soc: &Soc, plan: &Plan) -> Result<Vec<u8>, NoM
     ensures { IfOk result (λ text. text.items ≡ chart_text (soc_value soc.now) (plan_value plan.now)) }
 {
     let names = LiveTests::new(alloc, soc)?;
-    print_chart_with(alloc, soc, plan, &names)
+    let placed = Placed::new(alloc, soc, plan)?;
+    print_of(alloc, soc, plan, &names, &placed)
 }
 
-/// The chart of a good plan, where the live tests of the chip are at hand by name.
-pub fn print_chart_with(
+/// The chart of a good plan, where its live tests by name and by place are at hand.
+fn print_of(
     alloc: Global,
     soc: &Soc,
     plan: &Plan,
     names: &LiveTests,
+    placed: &Placed,
 ) -> Result<Vec<u8>, NoMemory>
     requires sound { IsSoundChip (soc_value soc.now) }
     requires good { IsGoodAlone (soc_value soc.now) (plan_value plan.now) }
     requires names { names.now ≡ live_ids (soc_value soc.now) }
+    requires placed { IsPlaced (soc_value soc.now) (plan_value plan.now) placed.now }
     ensures { IfOk result (λ text. text.items ≡ chart_text (soc_value soc.now) (plan_value plan.now)) }
 {
-    let tests = PlacedTests::with_names(alloc, soc, plan, names)?;
+    let placed = PlacedPlan::new(soc, plan, names, placed);
+    print_placed(alloc, &placed)
+}
+
+/// The chart of a good plan that is placed.
+pub fn print_placed(alloc: Global, placed: &PlacedPlan<'_>) -> Result<Vec<u8>, NoMemory>
+    ensures { IfOk result (λ text. text.items ≡ chart_text placed.now.soc placed.now.plan) }
+{
     let mut text = Vec::new(alloc);
-    push_entry(&mut text, b"cycles ", plan.cycles)?;
+    push_entry(&mut text, b"cycles ", placed.plan.cycles)?;
     extend(&mut text, b"\n")?;
-    push_rows(&mut text, &tests, plan)?;
+    push_rows(&mut text, placed)?;
     Ok(text)
 }

@@ -81,7 +81,7 @@ differ_filter f p (m ∷ ms) differ = elim (cases_Bool (p m)) [
 numbers_differ : {soc : SocValue} → IsSoundChip soc → AllDiffer (tam_numbers soc)
 numbers_differ {soc} sound = differ_filter (λ (m : ModuleValue). m.number) has_tam soc.modules sound.modules_differ
 
--- the same item at two places of a list whose items differ: the tests of places and of items agree
+-- in a list whose items differ, tests of places and of items agree
 numbers_agree : (ns : List ℕ) (y b : ℕ) {m n : ℕ} → AllDiffer ns → slice_get ns y ≡ Some m → slice_get ns b ≡ Some n → eqb y b ≡ eqb n m
 numbers_agree ns y b {m} {n} differ at there = elim (cases_eq y b) [
   | inl same ↦ eq-eqb y b same ∙ sym (eq-eqb n m (same_Some n m (sym there ∙ ap (slice_get ns) (sym same) ∙ at)))

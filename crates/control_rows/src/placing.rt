@@ -1,13 +1,11 @@
 //! The live tests of a chip as a good plan places them, with what their controls are made from.
 ghost use Rattle.std.specs.Prelude.{◌≡◌, ◌++◌, ℕ, Some, length, map, slice_get, IfOk, IsTrue, OnOk};
 ghost use Rattle.soc_model.specs.Chips.{is_live, live_tests, module_value, soc_value};
-ghost use Rattle.soc_model.specs.SoundChips.{IsSoundChip};
 ghost use Rattle.plan_model.specs.Plans.{PlanValue};
-ghost use Rattle.plan_model.specs.Rules.{IsGoodAlone};
 ghost use Rattle.live_tests.specs.Wrapped.{AreModeWrappers, IsWrappedTest};
 ghost use Rattle.control_rows.specs.Tests.{controlled, controlled_in, controlled_live, phases_of as the_phases};
 
-use live_tests::{ModeWrappers, PlannedChip};
+use live_tests::{ModeWrappers, PlacedPlan};
 use outside::{NoMemory, push};
 use plan_model::Phases;
 use soc_model::{Module, Soc, Test, has_tam_test, live, module_at};
@@ -53,54 +51,47 @@ fn phases_of(module: &Module, wrappers: &ModeWrappers, test: &Test) -> Phases
     }
 }
 
-/// A live test of the module at a place, which has these wrappers.
+/// A live test of the module at a place.
 fn controlled_test(
-    chip: &PlannedChip<'_>,
+    placed: &PlacedPlan<'_>,
     place: usize,
     before: usize,
     module: &Module,
-    wrappers: &ModeWrappers,
     test: &Test,
 ) -> ControlledTest
-    requires sound { IsSoundChip (soc_value chip.now.soc.now) }
-    requires good { IsGoodAlone (soc_value chip.now.soc.now) chip.now.index.now }
-    requires module_there { slice_get (soc_value chip.now.soc.now).modules place ≡ Some (module_value «module».now) }
+    requires module_there { slice_get placed.now.soc.modules place ≡ Some (module_value «module».now) }
     requires test_there { (k : ℕ) × (slice_get «module».now.tests.items k ≡ Some test.now) }
     requires live { IsTrue (is_live test.now) }
-    requires wrappers { AreModeWrappers chip.now.index.now (module_value «module».now) wrappers.now }
-    ensures { result ≡ controlled chip.now.index.now place before (module_value «module».now) test.now }
+    ensures { result ≡ controlled placed.now.plan place before (module_value «module».now) test.now }
 {
-    let placed = chip.test(place, module, wrappers, test);
+    // a use of the plan tells that it is good
+    let _ = &placed.soc;
+    let wrappers = placed.wrappers(place);
+    let run = placed.test(place, module, test);
     ControlledTest {
         tam: test.tam,
-        start: placed.start,
-        end: placed.end,
-        phases: phases_of(module, wrappers, test),
+        start: run.start,
+        end: run.end,
+        phases: phases_of(module, &wrappers, test),
         before,
     }
 }
 
 /// Adds the live tests of the module at a place.
 fn push_module(
-    chip: &PlannedChip<'_>,
+    placed: &PlacedPlan<'_>,
     tests: &mut Vec<ControlledTest>,
     place: usize,
     before: usize,
     module: &Module,
 ) -> Result<(), NoMemory>
-    requires sound { IsSoundChip (soc_value chip.now.soc.now) }
-    requires good { IsGoodAlone (soc_value chip.now.soc.now) chip.now.index.now }
-    requires module_there { slice_get (soc_value chip.now.soc.now).modules place ≡ Some (module_value «module».now) }
+    requires { slice_get placed.now.soc.modules place ≡ Some (module_value «module».now) }
     ensures { OnOk result (tests.new.items ≡ tests.old.items
-        ++ controlled_in chip.now.index.now place before (module_value «module».now) «module».now.tests.items) }
+        ++ controlled_in placed.now.plan place before (module_value «module».now) «module».now.tests.items) }
 {
-    let wrappers = ModeWrappers::new(chip.soc, chip.index, place, module);
     for test in &module.tests {
         if live(test) {
-            push(
-                tests,
-                controlled_test(chip, place, before, module, &wrappers, test),
-            )?;
+            push(tests, controlled_test(placed, place, before, module, test))?;
         }
     }
     Ok(())
@@ -109,18 +100,16 @@ fn push_module(
 /// The live tests of a chip as a good plan places them, in the order of the chip.
 pub fn controlled_tests(
     alloc: Global,
-    chip: &PlannedChip<'_>,
+    placed: &PlacedPlan<'_>,
 ) -> Result<Vec<ControlledTest>, NoMemory>
-    requires sound { IsSoundChip (soc_value chip.now.soc.now) }
-    requires good { IsGoodAlone (soc_value chip.now.soc.now) chip.now.index.now }
     ensures { IfOk result (λ tests. tests.items
-        ≡ map (controlled_live (soc_value chip.now.soc.now) chip.now.index.now) (live_tests (soc_value chip.now.soc.now))) }
+        ≡ map (controlled_live placed.now.soc placed.now.plan) (live_tests placed.now.soc)) }
 {
     let mut tests = Vec::new(alloc);
     let mut before = 0;
-    for place in 0..module_count(chip.soc) {
-        let module = module_at(chip.soc, place);
-        push_module(chip, &mut tests, place, before, module)?;
+    for place in 0..module_count(placed.soc) {
+        let module = module_at(placed.soc, place);
+        push_module(placed, &mut tests, place, before, module)?;
         if has_tam_test(module) {
             before += 1;
         }

@@ -1,21 +1,16 @@
 //! The rows of the controls of a plan.
-ghost use Rattle.std.specs.Prelude.{◌≡◌, ℕ, ◌+◌, ◌*◌, ◌^◌, ◌<◌, length, map, slice_range, IfOk};
-ghost use Rattle.soc_model.specs.Chips.{SocValue, live_tests, soc_value};
-ghost use Rattle.soc_model.specs.SoundChips.{IsSoundChip};
+ghost use Rattle.std.specs.Prelude.{◌≡◌, ℕ, ◌+◌, ◌*◌, ◌^◌, ◌<◌, length, slice_range, IfOk};
+ghost use Rattle.soc_model.specs.Chips.{SocValue};
 ghost use Rattle.plan_model.specs.Plans.{PlanValue};
-ghost use Rattle.plan_model.specs.Rules.{IsGoodAlone};
-ghost use Rattle.plan_model.specs.Views.{plan_value};
 ghost use Rattle.controls.specs.Controls.{control_row, controls};
 ghost use Rattle.control_rows.specs.Columns.{own_columns};
-ghost use Rattle.control_rows.specs.Tests.{AreControlRows, HaveRowRoom, controlled_live};
+ghost use Rattle.control_rows.specs.Tests.{AreControlRows, HaveRowRoom};
 
 use crate::columns::{ModuleColumns, put_test, put_zeros};
 use crate::placing::{ControlledTest, controlled_tests};
 use controls::{controls_of, tam_modules};
-use live_tests::{PlanIndex, PlannedChip};
+use live_tests::PlacedPlan;
 use outside::NoMemory;
-use plan_model::Plan;
-use soc_model::Soc;
 use std::alloc::Global;
 
 /// The controls of a good plan at each cycle. A row is what they are at one cycle, each as a digit, in the order of
@@ -32,14 +27,12 @@ pub struct ControlRows {
 
 impl ControlRows {
     /// The rows of a good plan of a sound chip. All memory is taken here: `NoMemory` where there is none.
-    pub fn new(alloc: Global, soc: &Soc, plan: &Plan) -> Result<ControlRows, NoMemory>
-        requires sound { IsSoundChip (soc_value soc.now) }
-        requires good { IsGoodAlone (soc_value soc.now) (plan_value plan.now) }
-        ensures { IfOk result (AreControlRows (soc_value soc.now) (plan_value plan.now)) }
+    pub fn new(alloc: Global, placed: &PlacedPlan<'_>) -> Result<ControlRows, NoMemory>
+        ensures { IfOk result (AreControlRows placed.now.soc placed.now.plan) }
     {
-        let numbers = tam_modules(alloc, soc)?;
-        let list = controls_of(alloc, soc)?;
-        let tests = placed_tests(alloc, soc, plan)?;
+        let numbers = tam_modules(alloc, placed.soc)?;
+        let list = controls_of(alloc, placed.soc)?;
+        let tests = controlled_tests(alloc, placed)?;
         Ok(ControlRows {
             tests,
             modules: numbers.len(),
@@ -84,19 +77,4 @@ impl ControlRows {
             capture: shifts + self.modules + test.before,
         }
     }
-}
-
-/// The live tests of a chip as a good plan places them. The plan's index goes when all are placed.
-fn placed_tests(alloc: Global, soc: &Soc, plan: &Plan) -> Result<Vec<ControlledTest>, NoMemory>
-    requires sound { IsSoundChip (soc_value soc.now) }
-    requires good { IsGoodAlone (soc_value soc.now) (plan_value plan.now) }
-    ensures { IfOk result (λ tests. tests.items
-        ≡ map (controlled_live (soc_value soc.now) (plan_value plan.now)) (live_tests (soc_value soc.now))) }
-{
-    let index = PlanIndex::new(alloc, plan)?;
-    let chip = PlannedChip { soc, index: &index };
-    let tests = controlled_tests(alloc, &chip);
-    // dropped by a call: the end of the scope would drop each of its parts, and be proved for each
-    drop(index);
-    tests
 }

@@ -10,8 +10,6 @@ ghost use Rattle.std.specs.Prelude.{◌≡◌, ◌≤◌, length, true, false};
 ghost use Rattle.outside.specs.Held.{Appended, AppendedFront, Rose};
 ghost use Rattle.outside.specs.Puts.{Puts};
 ghost use Rattle.soc_model.specs.Chips.{soc_value};
-ghost use Rattle.soc_model.specs.SoundChips.{IsSoundChip};
-ghost use Rattle.plan_model.specs.Rules.{IsGoodAlone};
 ghost use Rattle.plan_model.specs.Runs.{Content};
 ghost use Rattle.plan_model.specs.Views.{plan_value};
 ghost use Rattle.bit_machine.specs.Chips.{wires_of};
@@ -31,9 +29,8 @@ mod writing;
 use bit_machine::Contents;
 use cycle_forms::CycleForm;
 pub use laws::rows_show_vectors;
+use live_tests::PlacedPlan;
 use outside::Sink;
-use plan_model::Plan;
-use soc_model::Soc;
 use sources::{BlockRooms, RowSource};
 use std::alloc::Global;
 use tester_vectors::LinesOutcome;
@@ -88,23 +85,20 @@ fn write_in_room<F: CycleForm, C: Contents, K: Sink>(
 /// then written.
 pub fn write_program<F: CycleForm, C: Contents, K: Sink>(
     alloc: Global,
-    soc: &Soc,
-    plan: &Plan,
+    placed: &PlacedPlan<'_>,
     contents: &C,
     form: &F,
     out: &mut K,
 ) -> LinesOutcome
-    requires sound { IsSoundChip (soc_value soc.now) }
-    requires good { IsGoodAlone (soc_value soc.now) (plan_value plan.now) }
-    requires narrow { wires_of (plan_value plan.now) ≤ 256 }
-    requires cycles { (plan_value plan.now).cycles ≤ CYCLE_MOST }
-    requires wires { F.wires_of form.now ≡ wires_of (plan_value plan.now) }
-    requires controls { F.controls_of form.now ≡ length (controls (soc_value soc.now)) }
+    requires narrow { wires_of placed.now.plan ≤ 256 }
+    requires cycles { placed.now.plan.cycles ≤ CYCLE_MOST }
+    requires wires { F.wires_of form.now ≡ wires_of placed.now.plan }
+    requires controls { F.controls_of form.now ≡ length (controls placed.now.soc) }
     ensures faults_never_fall { K.faults out.old ≤ K.faults out.new }
     ensures written { result ≡ LinesOutcome.Written → (content : Content) (marks : Marks) →
-        StandFor (C.keys contents.now) (C.drive contents.now) (C.mark contents.now) (soc_value soc.now) content marks →
+        StandFor (C.keys contents.now) (C.drive contents.now) (C.mark contents.now) placed.now.soc content marks →
         Appended (K.written out.old) (program_text (F.head_of form.now) (F.part_of form.now) (F.tail_of form.now)
-        (soc_value soc.now) (plan_value plan.now) content marks) (K.written out.new) }
+        placed.now.soc placed.now.plan content marks) (K.written out.new) }
     ensures no_memory_writes_nothing { result ≡ LinesOutcome.NoMemory → out.new ≡ out.old }
 
     // No put fails but the last one, and none is empty.
@@ -113,11 +107,11 @@ pub fn write_program<F: CycleForm, C: Contents, K: Sink>(
 
     ensures fault { result ≡ LinesOutcome.WriteFault → Rose (K.faults out.old) (K.faults out.new) }
     ensures front { result ≡ LinesOutcome.WriteFault → (content : Content) (marks : Marks) →
-        StandFor (C.keys contents.now) (C.drive contents.now) (C.mark contents.now) (soc_value soc.now) content marks →
+        StandFor (C.keys contents.now) (C.drive contents.now) (C.mark contents.now) placed.now.soc content marks →
         AppendedFront (K.written out.old) (program_text (F.head_of form.now) (F.part_of form.now) (F.tail_of form.now)
-        (soc_value soc.now) (plan_value plan.now) content marks) (K.written out.new) }
+        placed.now.soc placed.now.plan content marks) (K.written out.new) }
 {
-    let source = match RowSource::new(alloc, soc, plan, contents) {
+    let source = match RowSource::new(alloc, placed, contents) {
         Ok(source) => source,
         Err(_) => return LinesOutcome::NoMemory,
     };

@@ -1,8 +1,6 @@
 //! Where the rows of a plan's cycles come from: the vectors of the plan and its controls.
 ghost use Rattle.std.specs.Prelude.{◌≡◌, ◌+◌, ◌*◌, ◌^◌, ◌<◌, ◌≤◌, length, IfOk};
 ghost use Rattle.soc_model.specs.Chips.{soc_value};
-ghost use Rattle.soc_model.specs.SoundChips.{IsSoundChip};
-ghost use Rattle.plan_model.specs.Rules.{IsGoodAlone};
 ghost use Rattle.plan_model.specs.Runs.{Content};
 ghost use Rattle.plan_model.specs.Views.{plan_value};
 ghost use Rattle.bit_machine.specs.Chips.{wires_of};
@@ -15,7 +13,7 @@ ghost use Rattle.cycle_texts.specs.Sources.{HaveRoom, IsSource, IsSourceOf};
 use crate::blocks::line_length;
 use bit_machine::{Contents, Vectors};
 use control_rows::ControlRows;
-use live_tests::all_wires;
+use live_tests::{PlacedPlan, all_wires};
 use outside::NoMemory;
 use plan_model::Plan;
 use soc_model::Soc;
@@ -51,24 +49,22 @@ impl<'a> RowSource<'a> {
     /// What the rows of a good plan of a sound chip are made from, for contents. `NoMemory` where there is none.
     pub fn new<C: Contents>(
         alloc: Global,
-        soc: &'a Soc,
-        plan: &'a Plan,
+        placed: &PlacedPlan<'a>,
         contents: &C,
     ) -> Result<RowSource<'a>, NoMemory>
-        requires sound { IsSoundChip (soc_value soc.now) }
-        requires good { IsGoodAlone (soc_value soc.now) (plan_value plan.now) }
-        requires narrow { wires_of (plan_value plan.now) ≤ 256 }
-        ensures soc { IfOk result (λ source. source.soc.now ≡ soc.now) }
-        ensures plan { IfOk result (λ source. source.plan.now ≡ plan.now) }
-        ensures source { IfOk result (IsSourceOf (C.keys contents.now) (soc_value soc.now) (plan_value plan.now)) }
+        requires { wires_of placed.now.plan ≤ 256 }
+        ensures soc { IfOk result (λ source. soc_value source.soc.now ≡ placed.now.soc) }
+        ensures plan { IfOk result (λ source. plan_value source.plan.now ≡ placed.now.plan) }
+        ensures source { IfOk result (IsSourceOf (C.keys contents.now) placed.now.soc placed.now.plan) }
     {
+        let plan = placed.plan;
         let wires = all_wires(plan) as usize;
-        let controls = ControlRows::new(alloc, soc, plan)?;
-        let vectors = Vectors::new(alloc, soc, plan, contents)?;
+        let controls = ControlRows::new(alloc, placed)?;
+        let vectors = Vectors::new(alloc, placed, contents)?;
         let width = controls.count();
         let row = line_length(wires).saturating_add(width);
         Ok(RowSource {
-            soc,
+            soc: placed.soc,
             plan,
             vectors,
             controls,

@@ -4,7 +4,7 @@ ghost use Rattle.std.specs.List.Sorted.{IsNonDecreasing, IsPartitionPoint, IsPer
 ghost use Rattle.soc_model.specs.Chips.{soc_value};
 ghost use Rattle.soc_model.specs.SoundChips.{IsSoundChip};
 ghost use Rattle.plan_model.specs.Moments.{ArePhases, phase_ops};
-ghost use Rattle.plan_model.specs.Plans.{PlannedTest};
+ghost use Rattle.plan_model.specs.Plans.{PlannedTest, planned};
 ghost use Rattle.plan_model.specs.Rules.{IsGoodAlone};
 ghost use Rattle.plan_model.specs.Views.{plan_value};
 ghost use Rattle.fail_locate.specs.declared.wired.WiredTest.{WiredTest};
@@ -12,12 +12,12 @@ ghost use Rattle.fail_locate.specs.Chains.{IsFromEnd, cells_at};
 ghost use Rattle.fail_locate.specs.Locating.{IsLast, IsOnWire, IsTurn, comes_by};
 ghost use Rattle.fail_locate.specs.SpotAt.{spot_at};
 ghost use Rattle.fail_locate.specs.Spots.{IsNoSpot, IsSpot};
-ghost use Rattle.fail_locate.specs.Wired.{AreInOrder, IsWired};
+ghost use Rattle.fail_locate.specs.Wired.{AreInOrder, AreWired, IsWired};
 
 use crate::cells::cell_shown;
-use crate::wired::{ChipWithPlan, WiredTest};
+use crate::wired::{WiredTest, wired_tests, wired_tests_of};
 use crate::{Cell, Spot};
-use live_tests::first_wires;
+use live_tests::{LiveTests, Placed, PlacedPlan, first_wires};
 use outside::NoMemory;
 use plan_model::{Plan, Turn};
 use soc_model::{Soc, module_at};
@@ -114,21 +114,22 @@ fn turn_behind(test: &WiredTest, cycle: u64) -> Option<Turn>
 }
 
 /// The cell of a test that is read `shifts` Shifts after a capture on the chain of a wire of its bus.
-fn cell_of(placing: &ChipWithPlan<'_>, test: &WiredTest, chain: usize, shifts: u64) -> Option<Cell>
-    requires sound { IsSoundChip (soc_value placing.now.soc.now) }
-    requires wired { (u : PlannedTest) × IsWired (soc_value placing.now.soc.now) (plan_value placing.now.plan.now) u test.now }
-    ensures { (u : PlannedTest) → IsWired (soc_value placing.now.soc.now) (plan_value placing.now.plan.now) u test.now →
+fn cell_of(soc: &Soc, plan: &Plan, test: &WiredTest, chain: usize, shifts: u64) -> Option<Cell>
+    requires sound { IsSoundChip (soc_value soc.now) }
+    requires wired { (u : PlannedTest) × IsWired (soc_value soc.now) (plan_value plan.now) u test.now }
+    ensures { (u : PlannedTest) → IsWired (soc_value soc.now) (plan_value plan.now) u test.now →
         IsFromEnd (cells_at u.chains chain) shifts result }
 {
-    let module = module_at(placing.soc, test.place);
-    let wrapper = &placing.plan.wrappers[test.wrapper];
+    let module = module_at(soc, test.place);
+    let wrapper = &plan.wrappers[test.wrapper];
     cell_shown(module, wrapper, chain, shifts)
 }
 
 /// Finds which response bit of a plan a tester reads.
 #[derive(Drop)]
 pub struct Locator<'a> {
-    placing: ChipWithPlan<'a>,
+    soc: &'a Soc,
+    plan: &'a Plan,
     /// The first wire of each bus, and behind them the number of all wires.
     firsts: Vec<u64>,
     /// The tests over the wires, by bus, and on a bus by start.
@@ -143,9 +144,9 @@ impl<'a> Model for Locator<'a> {
 
     ghost Value = { LocatorValue };
 
-    ghost view = { λ l. record { soc = soc_value l.placing.soc.now; plan = plan_value l.placing.plan.now } };
+    ghost view = { λ l. record { soc = soc_value l.soc.now; plan = plan_value l.plan.now } };
 
-    ghost invariant = { λ l. IsLocator (soc_value l.placing.soc.now) (plan_value l.placing.plan.now) l.firsts.items l.tests.items };
+    ghost invariant = { λ l. IsLocator (soc_value l.soc.now) (plan_value l.plan.now) l.firsts.items l.tests.items };
 }
 
 impl<'a> Locator<'a> {
@@ -155,13 +156,42 @@ impl<'a> Locator<'a> {
         requires good { IsGoodAlone (soc_value soc.now) (plan_value plan.now) }
         ensures { IfOk result (λ locator. locator ≡ record { soc = soc_value soc.now; plan = plan_value plan.now }) }
     {
-        let placing = ChipWithPlan { soc, plan };
+        let names = LiveTests::new(alloc, soc)?;
+        let placed = Placed::new(alloc, soc, plan)?;
+        let tests = wired_tests_of(alloc, soc, plan, &names, &placed);
+        // dropped by calls: the end of the scope would drop each of their parts, and be proved for each
+        drop(placed);
+        drop(names);
+        Locator::with_tests(alloc, soc, plan, tests?)
+    }
+
+    /// A locator for a good plan of a sound chip, where the plan is placed already. `NoMemory` where there is none.
+    pub fn of(alloc: Global, placed: &PlacedPlan<'a>) -> Result<Locator<'a>, NoMemory>
+        ensures { IfOk result (λ locator. locator ≡ record { soc = placed.now.soc; plan = placed.now.plan }) }
+    {
+        let tests = wired_tests(alloc, placed)?;
+        Locator::with_tests(alloc, placed.soc, placed.plan, tests)
+    }
+
+    /// A locator for a good plan of a sound chip, with the plan's tests over the wires. `NoMemory` where there is none.
+    fn with_tests(
+        alloc: Global,
+        soc: &'a Soc,
+        plan: &'a Plan,
+        tests: Vec<WiredTest>,
+    ) -> Result<Locator<'a>, NoMemory>
+        requires sound { IsSoundChip (soc_value soc.now) }
+        requires good { IsGoodAlone (soc_value soc.now) (plan_value plan.now) }
+        requires wired { AreWired (soc_value soc.now) (plan_value plan.now)
+            (planned (soc_value soc.now) (plan_value plan.now)) tests.items }
+        ensures { IfOk result (λ locator. locator ≡ record { soc = soc_value soc.now; plan = plan_value plan.now }) }
+    {
         let firsts = first_wires(alloc, plan)?;
-        let tests = in_order(placing.tests(alloc)?);
         Ok(Locator {
-            placing,
+            soc,
+            plan,
             firsts,
-            tests,
+            tests: in_order(tests),
         })
     }
 
@@ -175,7 +205,7 @@ impl<'a> Locator<'a> {
         let (bus, chain) = on_bus(&self.firsts, wire)?;
         let test = last_begun(&self.tests, bus, cycle)?;
         let turn = turn_behind(&test, cycle)?;
-        let cell = cell_of(&self.placing, &test, chain, turn.shifts)?;
+        let cell = cell_of(self.soc, self.plan, &test, chain, turn.shifts)?;
         Some(Spot {
             test: test.id,
             pattern: turn.pattern,

@@ -11,7 +11,7 @@ use Rattle.common_lemmas.proofs.Options.{never_both}
 abbrev pub IsKept : {K S V : Type 0} → Machine K S V → (List (Token K) → S → Type 0) → Type 0
 IsKept {K} {S} m Holds = (ts : List (Token K)) (s next : S) (t : Token K) → Holds ts s → m.step s t ≡ Some next → Holds (ts ++ t ∷ []) next
 
--- the same of the state that a step comes to, where it comes to one
+-- the relation holds of the state that a step comes to, where it comes to one
 abbrev pub HoldsNext : {K S : Type 0} → (List (Token K) → S → Type 0) → Option S → List (Token K) → Type 0
 HoldsNext Holds None ts = Unit {0}
 HoldsNext Holds (Some s) ts = Holds ts s

@@ -34,7 +34,7 @@ abbrev pub spaced : {K : Type 0} → (K → List ℕ) → List (Token K) → Lis
 spaced spelling [] = []
 spaced spelling (t ∷ ts) = (32 ∷ token_text spelling t) ++ spaced spelling ts
 
--- the same of numbers
+-- numbers, each with a space before it
 abbrev pub spaced_numbers : List ℕ → List ℕ
 spaced_numbers [] = []
 spaced_numbers (n ∷ ns) = (32 ∷ decimal n) ++ spaced_numbers ns

@@ -16,7 +16,7 @@ pub record IsAfter {K S V : Type 0} (l : Lexicon K) (m : Machine K S V) (s : S) 
   pub spelled : Spells l words tokens
   pub read : IsRun m tokens s
 
--- the same, where the machine reads the grammar
+-- the state after these words of a machine that reads the grammar
 pub record IsReadBy {K S V : Type 0} (g : Grammar K V) (m : Machine K S V) (s : S) (words : List Word) : Type 0 where
   pub after : IsAfter g.lexicon m s words
   pub reads : ReadsGrammar g m

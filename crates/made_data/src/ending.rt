@@ -9,7 +9,7 @@ ghost use Rattle.commands.specs.Endings.{WritesEnding, PutsEnding};
 ghost use Rattle.made_data.specs.Endings.{IsWritable, ending_value};
 
 use crate::text::MadeData;
-use commands::{DATA_FILE_MOST, Status, Verdict, numbered, refused_with, write_verdict};
+use commands::{DATA_FILE_MOST, Status, Verdict, number_line, refused_with, write_verdict};
 use outside::{NoMemory, Sink};
 use soc_model::Soc;
 use std::alloc::Global;
@@ -28,7 +28,7 @@ fn long_line(alloc: Global, bytes: u128) -> Result<Vec<u8>, NoMemory>
     ensures text { IfOk result (λ text. text.items ≡ line_of bytes) }
     ensures line { IfOk result (λ text. IsTrue (is_line text.items)) }
 {
-    numbered(alloc, b"refused data long ", bytes)
+    number_line(alloc, b"refused data long ", bytes)
 }
 
 /// Writes the test data of a chip as it is made, or the refusal of one that is too long. All memory is taken before the first byte.

@@ -10,7 +10,7 @@ pub data PutDownTo {S : Type 0} (is_put : S → List ℕ → Put → S → Type 
   takes : (before now : S) (left : List ℕ) (n : ℕ) → PutDownTo is_put first bytes before left → 0 < length left →
       is_put before left (Taken n) now → PutDownTo is_put first bytes now (drop n left)
 
--- the same, and then a put of what was left, which failed
+-- puts that each took something, and then a put of what was left, which failed
 pub record PutUntilFailed {S : Type 0} (is_put : S → List ℕ → Put → S → Type 0) (first : S) (bytes : List ℕ) (now : S) : Type 0 where
   pub before : S
   pub left : List ℕ

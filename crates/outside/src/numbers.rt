@@ -24,7 +24,7 @@ pub fn number(word: &[u8], most: u64) -> Option<u64>
     short_number(word, most)
 }
 
-/// The same for a word of so few bytes that the number can't pass 64 bits, whatever digits they are.
+/// The value of a word of so few bytes that the number can't pass 64 bits, whatever digits they are.
 fn short_number(word: &[u8], most: u64) -> Option<u64>
     requires { (1 ≤ length word.now) × (length word.now ≤ 19) }
     ensures { result ≡ number_of word.now most }
@@ -42,7 +42,7 @@ fn short_number(word: &[u8], most: u64) -> Option<u64>
     Some(n)
 }
 
-/// The same for a word of any length but 0: it stops at the first digit with which the number passes `most`.
+/// The value of a word of any length but 0: it stops at the first digit with which the number passes `most`.
 fn long_number(word: &[u8], most: u64) -> Option<u64>
     requires { 1 ≤ length word.now }
     ensures { result ≡ number_of word.now most }
@@ -110,7 +110,7 @@ pub fn push_dotted(to: &mut Vec<u8>, first: u64, second: u64) -> Result<(), NoMe
     }
 }
 
-/// The same part by part: after `NoMemory` those that found room may stand behind the text.
+/// Appends the two numbers part by part: after `NoMemory` those that found room may stand behind the text.
 fn push_dotted_parts(to: &mut Vec<u8>, first: u64, second: u64) -> Result<(), NoMemory>
     ensures ok { OnOk result (to.new.items ≡ to.old.items ++ dotted_numbers first second) }
     ensures err { OnErr result (take (length to.old.items) to.new.items ≡ to.old.items) }

@@ -29,7 +29,7 @@ pub(crate) fn less_product(from: i64, a: i64, b: i64) -> i64 {
     cut_off(i128::from(from).wrapping_sub(product(a, b)))
 }
 
-/// The same, where the product fits into 64 bits.
+/// A fraction less the product of two others, where the product fits into 64 bits.
 pub(crate) fn less_small_product(from: i64, a: i64, b: i64) -> i64 {
     from.saturating_sub(lower(product(a, b)))
 }

@@ -13,7 +13,7 @@ pub(crate) fn part(list: &[i64], start: usize, count: usize) -> &[i64] {
     &list[start..start + count]
 }
 
-/// The same, to be written.
+/// A part of a list, to be written; empty where the list has no such part.
 pub(crate) fn part_mut(list: &mut [i64], start: usize, count: usize) -> &mut [i64] {
     if count > list.len() || start > list.len() - count {
         return &mut list[0..0];
@@ -52,7 +52,7 @@ fn take_any(row: &mut [i64], factor: i64, line: &[i64]) {
     }
 }
 
-/// The same, where each product fits into 64 bits. Most of the time of a programme goes by here.
+/// Takes a multiple of a line from a row where each product fits into 64 bits. Most of the time of a programme goes by here.
 fn take_small(row: &mut [i64], factor: i64, line: &[i64]) {
     let count = row.len().min(line.len());
     for column in 0..count {

@@ -35,7 +35,7 @@ pub struct Programme {
     draft: Vec<i64>,
     /// The rows as they were given.
     written: WrittenRows,
-    /// The same in the present basis.
+    /// Those rows in the present basis.
     tableau: Tableau,
     basis: Basis,
     /// How often the greatest sum was asked for.

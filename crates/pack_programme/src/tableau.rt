@@ -189,7 +189,7 @@ impl Tableau {
         }
     }
 
-    /// The same for the costs.
+    /// Clears a column of the costs.
     fn clear_cost(&mut self, column: usize) {
         let factor = item_or(&self.cost, column, 0);
         put_item(&mut self.cost, column, 0);

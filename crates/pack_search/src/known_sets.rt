@@ -33,7 +33,7 @@ pub(crate) fn part(list: &[u64], from: usize, count: usize) -> &[u64] {
     &list[from..from + count]
 }
 
-/// The same, to be written.
+/// A part of a list, to be written; empty where the list has no such part.
 pub(crate) fn part_mut(list: &mut [u64], from: usize, count: usize) -> &mut [u64] {
     if count > list.len() || from > list.len() - count {
         return &mut list[0..0];

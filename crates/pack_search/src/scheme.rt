@@ -61,7 +61,7 @@ fn rows_for(variables: usize) -> usize {
     variables.saturating_mul(3).saturating_add(60)
 }
 
-/// The same, where the rows of a programme of as many variables may not have too many numbers in all.
+/// The rows that a programme of some variables keeps, where these may not have too many numbers in all.
 fn rows_within(variables: usize) -> usize {
     let most = NUMBERS_MOST.checked_div(variables).unwrap_or(0);
     rows_for(variables).min(most)

@@ -63,7 +63,7 @@ fn take_item(row: &mut [u64], low: usize, end: usize, size: usize, net: u64) {
     }
 }
 
-/// The same for a word of marks: the bit of each number of cells from `low` on at which the item is taken.
+/// Takes an item for a word of marks: the bit of each number of cells from `low` on at which the item is taken.
 fn take_word(row: &mut [u64], low: usize, end: usize, size: usize, net: u64) -> u64
     requires within { end ≤ length row.old }
     requires size { size ≤ low }
@@ -77,7 +77,7 @@ fn take_word(row: &mut [u64], low: usize, end: usize, size: usize, net: u64) -> 
     bits
 }
 
-/// The same with a row of marks, which begins at the word `first`.
+/// Takes an item with a row of marks, which begins at the word `first`.
 fn take_marked(
     row: &mut [u64],
     marks: &mut [u64],
@@ -161,7 +161,7 @@ impl Knapsack {
         self.solve_open(items, charged, terms)
     }
 
-    /// The same, where some items fit and some don't.
+    /// What the items are worth, where some fit and some don't.
     fn solve_open(&mut self, items: &[PackItem], charged: Charge, terms: Terms) -> u64 {
         let mut room = terms.room();
         let mut worth: u64 = 0;

@@ -115,7 +115,7 @@ impl PackRoom {
         }
     }
 
-    /// The same for a group of ranges.
+    /// Solves a group of ranges.
     fn solve_group<U: Uses>(
         &mut self,
         case: &PackCase,

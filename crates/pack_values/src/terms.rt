@@ -47,7 +47,7 @@ impl Terms {
         })
     }
 
-    /// The same by greater cells, with the sets.
+    /// Terms by greater cells, with the sets.
     pub fn guessed(self) -> Terms {
         Terms {
             coarse: (self.cells / GUESS_CELLS).max(1),

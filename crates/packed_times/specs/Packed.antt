@@ -22,7 +22,7 @@ rising (x ∷ xs) = insert x (rising xs)
 abbrev pub crowd : List ℕ → (w k : ℕ) → ℕ
 crowd lengths w k = sum (take (k + 1) (drop (length lengths - (k * w + 1)) (rising lengths)))
 
--- the same, or 0 where there are no more than k * w lengths
+-- that sum, or 0 where there are no more than k * w lengths
 abbrev pub crowd_within : List ℕ → (w k : ℕ) → ℕ
 crowd_within lengths w k = if nat_lt (k * w) (length lengths) then crowd lengths w k else 0
 
@@ -44,7 +44,7 @@ share lengths w k q = quotient_up (sum (take (k * q + excess lengths w k) (risin
 abbrev pub least_share : List ℕ → (w k : ℕ) → ℕ
 least_share lengths w k = least_from_one (share lengths w k) (min w (excess lengths w k))
 
--- the same, or 0 where there are no more than k * w lengths
+-- that least share, or 0 where there are no more than k * w lengths
 abbrev pub share_within : List ℕ → (w k : ℕ) → ℕ
 share_within lengths w k = if nat_lt (k * w) (length lengths) then least_share lengths w k else 0
 

@@ -1,5 +1,5 @@
 -- The wires of buses, from one first wire to the next.
-use Rattle.std.proofs.Common.{◌≡◌, ℕ, zero, suc, ◌+◌, ◌-◌, ◌≤◌, ◌<◌, None, Some, List, [], ◌∷◌, length, take, refl, ap, ◌∙◌, arith, slice_get, slice_index, sum}
+use Rattle.std.proofs.Common.{◌≡◌, ℕ, zero, suc, ◌+◌, ◌-◌, ◌≤◌, ◌<◌, Some, List, [], ◌∷◌, length, take, refl, ap, ◌∙◌, arith, slice_get, slice_index, sum}
 use Rattle.std.proofs.lemmas.List.Sums.{sum_by-cons}
 use Rattle.plan_model.specs.Plans.{PlanValue, widths}
 use Rattle.live_tests.specs.Wires.{AreFirstWires}

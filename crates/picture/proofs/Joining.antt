@@ -1,10 +1,9 @@
 -- Texts that are appended one joined_before the other.
-use Rattle.std.proofs.Common.{◌≡◌, ℕ, ◌+◌, ◌*◌, ◌<◌, List, [], ◌∷◌, ◌++◌, length, get_or, map, take, ap, sym, ◌∙◌, append_assoc, arith}
+use Rattle.std.proofs.Common.{◌≡◌, ℕ, ◌+◌, ◌*◌, List, [], ◌∷◌, ◌++◌, map, ap, sym, ◌∙◌, append_assoc, arith}
 use Rattle.std.specs.List.{flat_map, range_with_len}
-use Rattle.std.proofs.lemmas.List.{append-nil, take_more}
+use Rattle.std.proofs.lemmas.List.{append-nil}
 use Rattle.std.proofs.lemmas.List.Concat.{flat_map-append}
 use Rattle.std.proofs.lemmas.List.FromFn.{map-range_with_len_more}
-use Rattle.common_lemmas.proofs.Lists.{joined_before}
 
 -- one multiple of a step more, of each of which a text is added
 pub mark_more : (f : ℕ → List ℕ) (step n : ℕ) (start old new : List ℕ) → old ≡ start ++ flat_map f (map (λ k. k * step) (range_with_len 0 n)) → new ≡ old ++ f (n * step) → new ≡ start ++ flat_map f (map (λ k. k * step) (range_with_len 0 (n + 1)))

@@ -1,5 +1,5 @@
 -- In the picture of a good plan no two neighbours have one fill.
-use Rattle.std.proofs.Common.{◌≡◌, ◌≢◌, ℕ, zero, suc, ◌+◌, ◌*◌, ◌/◌, ◌%◌, ◌≤◌, ◌<◌, Bool, true, false, cond, Option, None, Some, List, [], ◌∷◌, length, map, take, refl, sym, ap, subst, ◌∙◌, arith, inl, inr, ◌⊎◌, slice_get, slice_index, nat_eq, nat_le, nat_lt, is_none, option_map, ◌&&◌, count_by, filter, sum}
+use Rattle.std.proofs.Common.{◌≡◌, ℕ, zero, suc, ◌+◌, ◌*◌, ◌/◌, ◌%◌, ◌≤◌, ◌<◌, Bool, true, false, cond, Option, None, Some, List, [], length, take, refl, sym, ap, subst, ◌∙◌, arith, inl, inr, slice_get, slice_index, nat_eq, is_none, option_map, ◌&&◌, count_by, filter, sum}
 use Rattle.std.specs.List.{range_with_len}
 use Rattle.std.proofs.Math.Nat.{div-add-mod, mod-lt}
 use Rattle.std.proofs.lemmas.Bool.{and_parts, cases_Bool, cases_eq, cases_lt, eq-eqb, eqb-true, ne_eqb, leb-true, lt-ltb, le-leb, le-ltb}
@@ -16,7 +16,7 @@ use Rattle.live_tests.specs.declared.placed.PlacedTest.{PlacedTest}
 use Rattle.live_tests.specs.Placed.{bus_over, placed_of, placed_tests}
 use Rattle.picture.specs.declared.panels.Drawn.{Drawn}
 use Rattle.picture.specs.Fills.{band, earlier, fill_by, fill_of, is_earlier}
-use Rattle.picture.specs.Laws.{AreApart, AreNeighbours, AreToldApart, ComesNext, IsInLane}
+use Rattle.picture.specs.Laws.{AreApart, AreToldApart, ComesNext, IsInLane}
 use Rattle.picture.specs.PictureText.{self_tests}
 use Rattle.picture.specs.Rectangles.{bus_wires, covers, drawn_over, drawn_test, is_self, laned, over_bus, over_wires, starts_at, wired}
 use Rattle.picture.proofs.AllDrawn.{bus_wide}

@@ -6,7 +6,6 @@
 
 ghost use Rattle.std.specs.Prelude.{◌≡◌, ℕ, ◌+◌, ◌^◌, ◌≤◌, ◌++◌, List, Some, slice_get, IfOk, OnOk};
 ghost use Rattle.soc_model.specs.Chips.{SocValue, soc_value};
-ghost use Rattle.soc_model.specs.SoundChips.{IsSoundChip};
 ghost use Rattle.plan_model.specs.Plans.{LimitsValue, PlanValue};
 ghost use Rattle.plan_model.specs.Rules.{IsGood};
 ghost use Rattle.plan_model.specs.SoundLimits.{IsSoundLimits};
@@ -27,7 +26,7 @@ mod scale;
 mod sections;
 
 pub use laws::good_plans_draw_right;
-use live_tests::{PlacedTest, first_wires, tests_placed};
+use live_tests::{PlacedPlan, PlacedTest, first_wires};
 use marks::{push_buses, push_tests};
 use outside::{NoMemory, extend};
 use panels::{Drawn, Panel, below, lanes_panel, wires_panel};
@@ -126,15 +125,12 @@ fn parts_with(
 }
 
 /// The parts of the picture of a good plan.
-fn parts_of(alloc: Global, soc: &Soc, limits: &Limits, plan: &Plan) -> Result<Parts, NoMemory>
-    requires sound { IsSoundChip (soc_value soc.now) }
-    requires sound_limits { IsSoundLimits (soc_value soc.now) (limits_value limits.now) }
-    requires good { IsGood (soc_value soc.now) (limits_value limits.now) (plan_value plan.now) }
-    ensures { IfOk result (AreParts (soc_value soc.now) (limits_value limits.now) (plan_value plan.now)) }
+fn parts_of(alloc: Global, limits: &Limits, placed: &PlacedPlan<'_>) -> Result<Parts, NoMemory>
+    requires sound_limits { IsSoundLimits placed.now.soc (limits_value limits.now) }
+    requires good { IsGood placed.now.soc (limits_value limits.now) placed.now.plan }
+    ensures { IfOk result (AreParts placed.now.soc (limits_value limits.now) placed.now.plan) }
 {
-    good_without_limits();
-    let tests = tests_placed(alloc, soc, plan)?;
-    parts_with(alloc, limits, plan, &tests)
+    parts_with(alloc, limits, placed.plan, placed.tests())
 }
 
 /// Appends the buses and the tests over their wires.
@@ -179,28 +175,27 @@ fn push_inner(
 /// The picture of a good plan with the mark of a bound.
 fn print_with(
     alloc: Global,
-    soc: &Soc,
     limits: &Limits,
-    plan: &Plan,
+    placed: &PlacedPlan<'_>,
     mark: BoundMark,
 ) -> Result<Vec<u8>, NoMemory>
-    requires sound { IsSoundChip (soc_value soc.now) }
-    requires sound_limits { IsSoundLimits (soc_value soc.now) (limits_value limits.now) }
-    requires good { IsGood (soc_value soc.now) (limits_value limits.now) (plan_value plan.now) }
-    ensures { IfOk result (λ text. text.items ≡ picture_with (soc_value soc.now) (limits_value limits.now) (plan_value plan.now) mark) }
+    requires sound_limits { IsSoundLimits placed.now.soc (limits_value limits.now) }
+    requires good { IsGood placed.now.soc (limits_value limits.now) placed.now.plan }
+    ensures { IfOk result (λ text. text.items ≡ picture_with placed.now.soc (limits_value limits.now) placed.now.plan mark) }
 {
-    let parts = parts_of(alloc, soc, limits, plan)?;
+    let parts = parts_of(alloc, limits, placed)?;
+    let cycles = placed.plan.cycles;
     let mut text = Vec::new(alloc);
     push_head(&mut text, parts.bottom + 24)?;
     push_frame(&mut text, &parts.wires)?;
-    if plan.cycles != 0 {
+    if cycles != 0 {
         push_inner(
             alloc,
             &mut text,
-            soc,
+            placed.soc,
             &parts,
             limits.power,
-            plan.cycles,
+            cycles,
             mark,
         )?;
     }
@@ -208,7 +203,7 @@ fn print_with(
     Ok(text)
 }
 
-/// The picture of a good plan of a sound chip under sound limits, as SVG of 1,140 units from left to right. The wires stand below
+/// The picture of a plan that is good under sound limits, as SVG of 1,140 units from left to right. The wires stand below
 /// each other, with the frames of their buses, and beside each its place and how many wires it has; a rectangle for each test
 /// lies over the wires of its bus, from its start to its end, with its numbers and the name of its module in its title, and in it
 /// where there is room; a name shows at most 64 characters. Tests next to each other in time on a bus, and tests on buses beside each
@@ -219,40 +214,35 @@ fn print_with(
 /// `NoMemory` where there is none.
 pub fn print_picture(
     alloc: Global,
-    soc: &Soc,
     limits: &Limits,
-    plan: &Plan,
+    placed: &PlacedPlan<'_>,
 ) -> Result<Vec<u8>, NoMemory>
-    requires sound { IsSoundChip (soc_value soc.now) }
-    requires sound_limits { IsSoundLimits (soc_value soc.now) (limits_value limits.now) }
-    requires good { IsGood (soc_value soc.now) (limits_value limits.now) (plan_value plan.now) }
-    ensures text { IfOk result (λ text. text.items ≡ picture_text (soc_value soc.now) (limits_value limits.now) (plan_value plan.now)) }
+    requires sound_limits { IsSoundLimits placed.now.soc (limits_value limits.now) }
+    requires good { IsGood placed.now.soc (limits_value limits.now) placed.now.plan }
+    ensures text { IfOk result (λ text. text.items ≡ picture_text placed.now.soc (limits_value limits.now) placed.now.plan) }
 {
     let mark = BoundMark {
-        cycles: plan.bound.cycles,
+        cycles: placed.plan.bound.cycles,
         of_proof: false,
     };
-    print_with(alloc, soc, limits, plan, mark)
+    print_with(alloc, limits, placed, mark)
 }
 
 /// The picture of a good plan, as [`print_picture`] draws it, with a claim of a proof, in cycles, in the place of the plan's own bound.
 /// `NoMemory` where there is none.
 pub fn print_picture_of_claim(
     alloc: Global,
-    soc: &Soc,
     limits: &Limits,
-    plan: &Plan,
+    placed: &PlacedPlan<'_>,
     claim: u64,
 ) -> Result<Vec<u8>, NoMemory>
-    requires sound { IsSoundChip (soc_value soc.now) }
-    requires sound_limits { IsSoundLimits (soc_value soc.now) (limits_value limits.now) }
-    requires good { IsGood (soc_value soc.now) (limits_value limits.now) (plan_value plan.now) }
-    ensures text { IfOk result (λ text. text.items
-        ≡ picture_of_claim (soc_value soc.now) (limits_value limits.now) (plan_value plan.now) claim) }
+    requires sound_limits { IsSoundLimits placed.now.soc (limits_value limits.now) }
+    requires good { IsGood placed.now.soc (limits_value limits.now) placed.now.plan }
+    ensures text { IfOk result (λ text. text.items ≡ picture_of_claim placed.now.soc (limits_value limits.now) placed.now.plan claim) }
 {
     let mark = BoundMark {
         cycles: claim,
         of_proof: true,
     };
-    print_with(alloc, soc, limits, plan, mark)
+    print_with(alloc, limits, placed, mark)
 }

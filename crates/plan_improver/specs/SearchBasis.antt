@@ -2,7 +2,7 @@
 use Rattle.std.specs.Prelude.{◌≡◌, ℕ, length}
 use Rattle.soc_model.specs.Chips.{SocValue, live_tests}
 use Rattle.resource_table.specs.Jobs.{job_value, IsSoundJob}
-use Rattle.arch_search.specs.Problems.{IsProblem}
+use Rattle.arch_schedule.specs.Problems.{IsProblem}
 use Rattle.plan_improver.specs.declared.improving.SearchBasis.{SearchBasis}
 
 -- the wrappers of a chip's modules, and a job of its live tests with their cycles

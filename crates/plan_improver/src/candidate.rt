@@ -12,7 +12,7 @@ use arch_search::Found;
 use live_tests::Problem;
 use outside::{NoMemory, push};
 use packed_wrappers::PackedWrappers;
-use plan_checker::first_fault;
+use plan_checker::judge_plan;
 use plan_model::{Bound, Bus, Limits, Plan, Why, Wrapper};
 use planner::width_of;
 use soc_model::{Module, Soc, TestId, has_tam_test, module_at, uses_mode};
@@ -145,25 +145,12 @@ fn plan_of(
     }))
 }
 
-/// Whether a plan has no fault.
-fn is_faultless(alloc: Global, soc: &Soc, limits: &Limits, plan: &Plan) -> Result<bool, NoMemory>
-    requires chip { IsSoundChip (soc_value soc.now) }
-    requires limits { IsSoundLimits (soc_value soc.now) (limits_value limits.now) }
-    requires starts { AreSmallStarts (plan_value plan.now).starts }
-    ensures { IfOk result (λ good. good ≡ true → IsGood (soc_value soc.now) (limits_value limits.now) (plan_value plan.now)) }
-{
-    match first_fault(alloc, soc, limits, plan)? {
-        None => Ok(true),
-        Some(_) => Ok(false),
-    }
-}
-
 /// Whether a plan is accepted.
 fn is_accepted(alloc: Global, problem: &Problem<'_>, plan: &Plan) -> Result<bool, NoMemory>
     requires { AreSmallStarts (plan_value plan.now).starts }
     ensures { IfOk result (λ good. good ≡ true → IsGood problem.now.soc problem.now.limits (plan_value plan.now)) }
 {
-    is_faultless(alloc, problem.soc, problem.limits, plan)
+    Ok(judge_plan(alloc, problem, plan)?.is_ok())
 }
 
 /// The plan of what was found, where it is good and takes fewer than `cycles` cycles. Its starts are small enough for a plan's text.

@@ -22,7 +22,7 @@ use plan_text::print_plan;
 use std::alloc::Global;
 
 /// The text of a plan that is improved from one that is accepted.
-fn text_of<T: Sink>(
+fn improved_text<T: Sink>(
     alloc: Global,
     all: Accepted,
     tries: u64,
@@ -40,7 +40,9 @@ fn text_of<T: Sink>(
         limits,
         resolved,
         plan,
+        placed,
     } = all;
+    drop(placed);
     let problem = Problem::new(&soc, &limits, &resolved);
     let better = improved(alloc, &problem, plan, tries, seed, progress)?;
     print_plan(alloc, &better)
@@ -76,7 +78,7 @@ fn decide_improve<H: Shelf, T: Sink>(
     match load_all(alloc, soc, limits, plan, shelf) {
         Ok(all) => answered_with(
             Status::Done,
-            text_of(alloc, all, by.tries, by.seed, progress),
+            improved_text(alloc, all, by.tries, by.seed, progress),
         ),
         Err(verdict) => verdict,
     }

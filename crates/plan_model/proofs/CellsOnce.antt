@@ -14,7 +14,7 @@ use Rattle.plan_model.proofs.LowerTimes.{count_map, count_all_chains}
 use Rattle.plan_model.proofs.ProperByCounts.{times_later, times_range, times_past}
 use Rattle.common_lemmas.proofs.Lists.{sum_map}
 
--- the same cell
+-- two cells are one
 abbrev pub same_cell : Cell → Cell → Bool
 same_cell (In k) (In n) = nat_eq n k
 same_cell (In k) (Flop d j) = false

@@ -30,7 +30,7 @@ pub not_decided : {P : Type 0} → Decided P → Decided (P → ⊥)
 not_decided (inl p) = inr (λ h. h p)
 not_decided (inr no') = inl no'
 
--- the same, said otherwise
+-- what is decided stays so, said otherwise
 pub decided_as : {P Q : Type 0} → (P → Q) → (Q → P) → Decided P → Decided Q
 decided_as to from (inl p) = inl (to p)
 decided_as to from (inr no') = inr (λ q. no' (from q))

@@ -135,7 +135,7 @@ captures_at b l p (suc d) (suc m) k s n e h at =
     let same : k + suc d ≡ (k + 1) + d = omega arith in
     slice_get_past_shifts s (suc (b + d * (1 + b))) n (captures b l p k (suc (suc m))) (omega arith) ∙ rw (more, same) (captures_at b l p d m (k + 1) b (b + d * (1 + b)) (omega arith) (omega arith) refl)
 
--- the same of all operations of a test, behind the Setups
+-- captures of a test stand behind its Setups
 no_capture_in_setup : (s n c : ℕ) (ops : List Operation) → slice_get (replicate s Setup ++ ops) n ≡ Some (Capture c) → (i : ℕ) × (n ≡ s + i) × (slice_get ops i ≡ Some (Capture c))
 no_capture_in_setup zero n c ops e = (n, sym (zero-add n), e)
 no_capture_in_setup (suc s) zero c ops e = absurd cc

@@ -69,7 +69,7 @@ times_scan : (time_over (chain 2 (0 ∷ 1 ∷ []) 3 ∷ []) ∷ time_over (chain
 unfolding time_over module_x test chain ops_of
 times_scan = refl
 
--- the same of a second test of one pattern over the terminals alone
+-- a second test, of one pattern over the terminals alone
 terminals_test : Test
 terminals_test = record { number = 2; scan = false; tam = true; patterns = 1; power = 0 }
 

@@ -104,7 +104,7 @@ at_most_one p (x ∷ xs) h =
         rw (yes', none) (omega arith)
     go (inr no') few = rw no' (omega arith)
 
--- the same for each that passes
+-- one number for each that passes
 pub sum_by-constant : {X : Type 0} (p : X → Bool) (k : ℕ) (xs : List X) → sum_by (λ x. if p x then k else 0) xs ≡ k * sum_by (λ x. one_if (p x)) xs
 sum_by-constant p k [] = omega arith
 sum_by-constant p k (x ∷ xs) =

@@ -151,7 +151,7 @@ planned soc plan = map (λ (l : LiveTest). planned_test plan l.place l.core l.te
 abbrev pub IsActive : PlannedTest → ℕ → Type 0
 IsActive t c = (t.start ≤ c) × (c < end_of t)
 
--- the same as a test
+-- whether it is active
 abbrev pub is_active : ℕ → PlannedTest → Bool
 is_active c t = nat_le t.start c && nat_lt c (end_of t)
 

@@ -25,17 +25,17 @@ use proof_text::{ProofTextFault, read_proof};
 use std::alloc::Global;
 
 /// The picture of a plan that is accepted.
-fn text_of(alloc: Global, all: &Accepted) -> Result<Vec<u8>, NoMemory>
+fn picture_for(alloc: Global, all: &Accepted) -> Result<Vec<u8>, NoMemory>
     ensures { IfOk result (λ text. text.items ≡ picture_text all.now.soc all.now.limits all.now.plan) }
 {
-    print_picture(alloc, &all.soc, &all.limits, &all.plan)
+    print_picture(alloc, &all.limits, &all.placed_plan())
 }
 
-/// The same with the claim of a proof, in cycles, in the place of the plan's own bound.
-fn text_of_claim(alloc: Global, all: &Accepted, claimed: u64) -> Result<Vec<u8>, NoMemory>
+/// The picture of a plan that is accepted, with the claim of a proof, in cycles, in the place of the plan's own bound.
+fn claim_picture_for(alloc: Global, all: &Accepted, claimed: u64) -> Result<Vec<u8>, NoMemory>
     ensures { IfOk result (λ text. text.items ≡ picture_of_claim all.now.soc all.now.limits all.now.plan claimed) }
 {
-    print_picture_of_claim(alloc, &all.soc, &all.limits, &all.plan, claimed)
+    print_picture_of_claim(alloc, &all.limits, &all.placed_plan(), claimed)
 }
 
 /// `picture SOC LIMITS PLAN`: the picture of a plan that is accepted.
@@ -55,7 +55,7 @@ fn decide_picture<H: Shelf>(
 {
     match load_all(alloc, soc, limits, plan, shelf) {
         Ok(all) => {
-            let text = text_of(alloc, &all);
+            let text = picture_for(alloc, &all);
             all.free();
             answered_with(Status::Done, text)
         }
@@ -91,7 +91,7 @@ fn answer_proof(alloc: Global, all: &Accepted, bytes: &[u8]) -> Verdict
         return Verdict::NoMemory;
     };
     match checked {
-        Ok(()) => answered_with(Status::Done, text_of_claim(alloc, all, proof.claimed)),
+        Ok(()) => answered_with(Status::Done, claim_picture_for(alloc, all, proof.claimed)),
         Err(fault) => refused_with(proof_fault_line(alloc, fault)),
     }
 }

@@ -5,4 +5,4 @@
 mod deciding;
 mod top;
 
-pub use top::draw;
+pub use top::draw_plan;

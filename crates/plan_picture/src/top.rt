@@ -22,7 +22,7 @@ use std::alloc::Global;
 ///
 /// The words are `picture` and the names of the files. These are taken in this order. The first that can't be read, is too long
 /// or is refused decides, and nothing later is loaded. All memory is taken before the first byte is written.
-pub fn draw<H: Shelf, K: Sink>(
+pub fn draw_plan<H: Shelf, K: Sink>(
     alloc: Global,
     words: &[String],
     shelf: &mut H,

@@ -16,10 +16,10 @@ use report::print_report;
 use std::alloc::Global;
 
 /// The report of a plan that is accepted.
-fn text_of(alloc: Global, all: &Accepted) -> Result<Vec<u8>, NoMemory>
+fn report_of(alloc: Global, all: &Accepted) -> Result<Vec<u8>, NoMemory>
     ensures { IfOk result (λ text. text.items ≡ report_text all.now.soc all.now.limits all.now.plan) }
 {
-    print_report(alloc, &all.soc, &all.limits, &all.plan)
+    print_report(alloc, &all.limits, &all.placed_plan())
 }
 
 /// `report SOC LIMITS PLAN`: the report of a plan that is accepted.
@@ -39,7 +39,7 @@ fn decide_report<H: Shelf>(
 {
     match load_all(alloc, soc, limits, plan, shelf) {
         Ok(all) => {
-            let text = text_of(alloc, &all);
+            let text = report_of(alloc, &all);
             all.free();
             answered_with(Status::Done, text)
         }

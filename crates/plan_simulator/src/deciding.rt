@@ -22,11 +22,11 @@ use std::alloc::Global;
 use tester_vectors::too_many_cells;
 
 /// The line of a run.
-fn text_of(alloc: Global, all: &Accepted, seed: u64) -> Result<Vec<u8>, NoMemory>
+fn counts_of(alloc: Global, all: &Accepted, seed: u64) -> Result<Vec<u8>, NoMemory>
     ensures { IfOk result (λ text. text.items ≡ simulated_text all.now.soc all.now.plan seed) }
 {
     good_without_limits();
-    let chip = run_plan(alloc, &all.soc, &all.plan, seed)?;
+    let chip = run_plan(alloc, &all.placed_plan(), seed)?;
     counts_line(alloc, chip.report())
 }
 
@@ -45,7 +45,7 @@ fn simulated(alloc: Global, all: &Accepted, seed: u64) -> Verdict
 {
     match long_run(all) {
         Some(cells) => refused_with(run_line(alloc, cells)),
-        None => answered_with(Status::Done, text_of(alloc, all, seed)),
+        None => answered_with(Status::Done, counts_of(alloc, all, seed)),
     }
 }
 

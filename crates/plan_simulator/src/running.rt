@@ -1,18 +1,14 @@
 //! A whole chip is stepped through its plan.
 ghost use Rattle.std.specs.Prelude.{◌≡◌, ℕ, ◌+◌, ◌<◌, ◌≤◌, length, IfOk};
-ghost use Rattle.soc_model.specs.Chips.{SocValue, soc_value};
-ghost use Rattle.soc_model.specs.SoundChips.{IsSoundChip};
+ghost use Rattle.soc_model.specs.Chips.{SocValue};
 ghost use Rattle.plan_model.specs.Plans.{PlanValue};
 ghost use Rattle.plan_model.specs.Rules.{IsGoodAlone};
-ghost use Rattle.plan_model.specs.Views.{plan_value};
 ghost use Rattle.bit_machine.specs.Chips.{wires_of};
 ghost use Rattle.plan_simulator.specs.Steps.{IsAfter};
 
 use bit_machine::Chip;
-use live_tests::all_wires;
+use live_tests::{PlacedPlan, all_wires};
 use outside::NoMemory;
-use plan_model::Plan;
-use soc_model::Soc;
 use std::alloc::Global;
 
 /// `count` bits, all 0.
@@ -39,20 +35,18 @@ fn run_cycle(chip: &mut Chip<'_>, drive: &mut [bool], read: &mut [bool])
 /// those of the plan's own run, and it has counted the captures of all cycles.
 pub(crate) fn run_plan<'a>(
     alloc: Global,
-    soc: &'a Soc,
-    plan: &'a Plan,
+    placed: &PlacedPlan<'a>,
     seed: u64,
 ) -> Result<Chip<'a>, NoMemory>
-    requires sound { IsSoundChip (soc_value soc.now) }
-    requires good { IsGoodAlone (soc_value soc.now) (plan_value plan.now) }
-    requires narrow { wires_of (plan_value plan.now) ≤ 256 }
-    ensures { IfOk result (IsAfter (soc_value soc.now) (plan_value plan.now) seed (plan_value plan.now).cycles) }
+    requires good { IsGoodAlone placed.now.soc placed.now.plan }
+    requires narrow { wires_of placed.now.plan ≤ 256 }
+    ensures { IfOk result (IsAfter placed.now.soc placed.now.plan seed placed.now.plan.cycles) }
 {
-    let wires = all_wires(plan) as usize;
+    let wires = all_wires(placed.plan) as usize;
     let mut drive = zero_bits(alloc, wires)?;
     let mut read = zero_bits(alloc, wires)?;
-    let mut chip = Chip::new(alloc, soc, plan, seed)?;
-    for _cycle in 0..plan.cycles {
+    let mut chip = Chip::of(alloc, placed, seed)?;
+    for _cycle in 0..placed.plan.cycles {
         run_cycle(&mut chip, &mut drive, &mut read);
     }
     Ok(chip)

@@ -78,7 +78,7 @@ module _ (table : TableValue) (buses : List arch.BusValue) (sound : IsSoundArch 
   pub all_in_range : IsTable table → All (λ p. p < places_of table) (all_places buses)
   all_in_range laws = listed-in_range table (all_places buses) laws (λ p. omega (arith, once_all p))
 
-  -- the same bus by bus
+  -- so those of each bus are in range
   pub buses_in_range : IsTable table → All (λ (bus : arch.BusValue). All (λ p. p < places_of table) bus.places) buses
   buses_in_range laws = all_from (λ (bus : arch.BusValue). All (λ p. p < places_of table) bus.places) buses (λ i bus at.
       listed-in_range table bus.places laws (λ p. omega (arith, sound.once p, item-le-sum_by (λ (bus : arch.BusValue). times_listed p bus.places) buses i bus at)))

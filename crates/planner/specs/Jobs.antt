@@ -31,7 +31,7 @@ test_of soc limits plan l = record {
   steps = steps_of limits (id_of l) l.test.power;
 }
 
--- the same of a test of a module
+-- what the job says of a test of a module
 abbrev pub test_in : SocValue → LimitsValue → PlanValue → ℕ → ModuleValue → Test → TestValue
 test_in soc limits plan place m t = test_of soc limits plan (record { place = place; core = m; test = t })
 

@@ -27,7 +27,7 @@ pub record IsTableWrapper (m : ModuleValue) (width : ℕ) (w : WrapperValue) : T
   pub is_chosen : IsChosen (mode_time m w.scan) width chosen
   pub designed : w.chains ≡ design (mode_of m w.scan) chosen
 
--- the same for a module of the chip, on its bus
+-- the wrapper of a module of the chip, at the width of its bus
 pub record IsWrapperOnBus (soc : SocValue) (buses : List BusValue) (w : WrapperValue) : Type 0 where
   pub place : ℕ
   pub core : ModuleValue

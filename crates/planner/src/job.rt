@@ -212,7 +212,7 @@ pub fn job_of(alloc: Global, parts: &JobSource<'_>) -> Result<Job, NoMemory>
     job_resolved(alloc, parts, &resolved)
 }
 
-/// The same job, by what the chip and its limits say by places.
+/// The job, by what the chip and its limits say by places.
 fn job_resolved(alloc: Global, parts: &JobSource<'_>, resolved: &Resolved) -> Result<Job, NoMemory>
     requires sound { IsSoundChip (soc_value parts.now.soc.now) }
     requires wrapped { Keeps (soc_value parts.now.soc.now) (limits_value parts.now.limits.now)

@@ -62,7 +62,7 @@ where
     plan_with(alloc, &problem, ahead)
 }
 
-/// The same plan of a problem.
+/// The plan of a problem, as [`plan`] makes it.
 pub fn plan_with<F: Fn(&Table<'_>, usize) -> u64>(
     alloc: Global,
     problem: &Problem<'_>,

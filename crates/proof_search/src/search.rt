@@ -3,7 +3,7 @@ use crate::divisions::Division;
 use crate::packs::NodePacks;
 use crate::queue::{NO_ENTRY, NodeEntry, NodeQueue};
 use crate::weighing::{CaseWeighing, CaseWorth};
-use case_tables::{LISTS_MOST, RANKS_MOST};
+use case_tables::{ChipTables, LISTS_MOST, RANKS_MOST};
 use case_tree::{CaseTree, NodeRule, ProofNames, TEXT_MOST, proof_of};
 use chip_tables::tables_of;
 use leaf_values::LeafBasis;
@@ -56,12 +56,6 @@ pub struct Search {
     done: bool,
 }
 
-/// What all leaves ask of a chip.
-fn basis_of(alloc: Global, problem: &Problem<'_>, goal: u64) -> Result<LeafBasis, NoMemory> {
-    let chip = tables_of(alloc, problem, goal)?;
-    LeafBasis::new(alloc, chip)
-}
-
 /// How many nodes there is room for.
 fn room_for(nodes: u64) -> usize {
     (nodes.min(NODES_MOST) as usize).saturating_add(MORE_MOST)
@@ -108,7 +102,13 @@ impl Search {
         nodes: u64,
         packs: bool,
     ) -> Result<Search, NoMemory> {
-        let basis = basis_of(alloc, problem, goal)?;
+        let chip = tables_of(alloc, problem, goal)?;
+        Search::over(alloc, chip, nodes, packs)
+    }
+
+    /// A search over the tables of a chip. `NoMemory` where there is none.
+    fn over(alloc: Global, chip: ChipTables, nodes: u64, packs: bool) -> Result<Search, NoMemory> {
+        let basis = LeafBasis::new(alloc, chip)?;
         let weighing = CaseWeighing::new(alloc, &basis.chip);
         let packs = packs_of(alloc, &basis, nodes, packs);
         let mut search = Search::with(alloc, basis, both(weighing, packs), nodes)?;
@@ -525,20 +525,31 @@ impl Search {
         }
     }
 
-    /// Whether nothing is left to do.
-    pub fn is_done(&self) -> bool {
-        self.done
-    }
-
-    /// Ends the search: the proof of the claim so far. `NoMemory` where there is none. (It takes the search, which is freed here:
-    /// a caller that frees it is proved for each of its parts anew.)
-    pub fn proof(self, alloc: Global) -> Result<Proof, NoMemory> {
+    /// The proof of the claim so far. `NoMemory` where there is none.
+    pub fn proof(&self, alloc: Global) -> Result<Proof, NoMemory> {
         let names = ProofNames {
             chip: &self.basis.chip,
             lists: &self.basis.lists,
         };
-        let proof = proof_of(alloc, &self.tree, names, self.claim, self.front);
+        proof_of(alloc, &self.tree, names, self.claim, self.front)
+    }
+
+    /// The tables of the chip; all else is freed.
+    fn into_chip(self) -> ChipTables {
+        let Search { basis, .. } = self;
+        let LeafBasis { chip, .. } = basis;
+        chip
+    }
+
+    /// Ends the search and begins one for the claim of its goal, of as many nodes, that looks for no leaves Pack. Only the tables of the
+    /// chip are kept. `NoMemory` where there is none.
+    pub fn plain_again(self, alloc: Global) -> Result<Search, NoMemory> {
+        let nodes = self.nodes;
+        Search::over(alloc, self.into_chip(), nodes, false)
+    }
+
+    /// Ends the search. (A caller that frees it otherwise is proved for each of its parts anew.)
+    pub fn free(self) {
         drop(self);
-        proof
     }
 }

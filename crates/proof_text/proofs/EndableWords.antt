@@ -49,7 +49,7 @@ finish_some : (n : ℕ) (s : State) (d : DraftValue) → MayBegin s d → d.want
 finish_some n s d may some =
     finish_leaf s d n may some (finish_wanted n (at (record d { wanted = n }) (in_ranks (wire_of 0))) (with_leaf d n) (ranks_go (record d { wanted = n }) (wire_of 0)) refl)
 
--- the same with no more known than that one is wanted
+-- where at least one is wanted
 finish_more : (n : ℕ) (s : State) (d : DraftValue) → MayBegin s d → d.wanted ≡ n → 1 ≤ n → Ends s
 finish_more zero s d may is some = absurd (omega (arith, some))
 finish_more (suc n) s d may is some = finish_some n s d may is

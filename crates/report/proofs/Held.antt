@@ -1,5 +1,5 @@
 -- Who held a test, and that the lines of those that end last are whole.
-use Rattle.std.proofs.Common.{◌≡◌, ℕ, zero, suc, ◌≤◌, ◌<◌, Bool, true, false, Option, None, Some, List, [], ◌∷◌, ◌++◌, length, find, refl, sym, ap, ◌∙◌, subst, arith, slice_get, nat_eq, option_map, IfSome}
+use Rattle.std.proofs.Common.{◌≡◌, ℕ, zero, suc, ◌≤◌, ◌<◌, Option, None, Some, List, [], ◌∷◌, ◌++◌, length, refl, sym, ap, ◌∙◌, subst, arith, slice_get, nat_eq, option_map, IfSome}
 use Rattle.std.proofs.lemmas.Bool.{and_parts, eqb-true, leb-true}
 use Rattle.soc_model.specs.Chips.{SocValue, is_live}
 use Rattle.plan_model.specs.Plans.{LimitsValue, PlanValue, PlannedTest, end_of, planned}

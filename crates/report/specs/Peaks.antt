@@ -15,7 +15,7 @@ unfoldable pub peak : (ℕ → ℕ) → ℕ → Peak
 peak load zero = no_power
 peak load (suc n) = higher (peak load n) n (load n)
 
--- the same over steps of a load, each a cycle with the load from there on, after a peak that was found before
+-- the peak of the steps of a load, each a cycle with the load from there on, after a peak that was found before
 abbrev pub peak_after : Peak → List (ℕ × ℕ) → Peak
 peak_after p [] = p
 peak_after p (s ∷ steps) = peak_after (higher p s.0 s.1) steps

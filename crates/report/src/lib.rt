@@ -31,11 +31,11 @@ mod totals;
 use buses::push_buses;
 use chain::push_chain;
 pub use laws::good_plans_report_right;
-use live_tests::{PlacedTest, tests_placed};
+use live_tests::{PlacedPlan, PlacedTest};
 use modules::push_modules;
 use outside::NoMemory;
 use peak::push_power;
-use plan_model::{Limits, Plan, good_without_limits};
+use plan_model::{Limits, Plan};
 use power_events::power_steps;
 use soc_model::Soc;
 use std::alloc::Global;
@@ -111,7 +111,7 @@ fn print_placed(
     Ok(text)
 }
 
-/// The report of a good plan of a sound chip under sound limits, line by line: the plan's cycles, its bound with the kind, and the
+/// The report of a plan that is good under sound limits, line by line: the plan's cycles, its bound with the kind, and the
 /// cycles between them; all wires, those of the buses, and in wires times cycles what the tests take of all that there is; the greatest
 /// power with its first cycle, and the limit; for each bus its wires, tests, and busy and idle cycles; for each module with a test over
 /// the wires its bus and its cycles, the least width of a bus on which it takes no more, and the least greater width on which it takes
@@ -119,16 +119,12 @@ fn print_placed(
 /// reason, and so on back to one that nothing held. `NoMemory` where there is none.
 pub fn print_report(
     alloc: Global,
-    soc: &Soc,
     limits: &Limits,
-    plan: &Plan,
+    placed: &PlacedPlan<'_>,
 ) -> Result<Vec<u8>, NoMemory>
-    requires sound { IsSoundChip (soc_value soc.now) }
-    requires sound_limits { IsSoundLimits (soc_value soc.now) (limits_value limits.now) }
-    requires good { IsGood (soc_value soc.now) (limits_value limits.now) (plan_value plan.now) }
-    ensures text { IfOk result (λ text. text.items ≡ report_text (soc_value soc.now) (limits_value limits.now) (plan_value plan.now)) }
+    requires sound_limits { IsSoundLimits placed.now.soc (limits_value limits.now) }
+    requires good { IsGood placed.now.soc (limits_value limits.now) placed.now.plan }
+    ensures text { IfOk result (λ text. text.items ≡ report_text placed.now.soc (limits_value limits.now) placed.now.plan) }
 {
-    good_without_limits();
-    let tests = tests_placed(alloc, soc, plan)?;
-    print_placed(alloc, soc, limits, plan, &tests)
+    print_placed(alloc, placed.soc, limits, placed.plan, placed.tests())
 }

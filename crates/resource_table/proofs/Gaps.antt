@@ -151,7 +151,7 @@ put_over_last {X} xs ys place n y lt is = left ∙ sym right
     right : insert (remove xs (place + n)) place y ≡ take place xs ++ y ∷ (take n d ++ drop (n + 1) d)
     right = ap (λ v. v ++ y ∷ drop place (remove xs (place + n))) front ∙ ap (λ v. take place xs ++ y ∷ v) back
 
--- the same, as a part of the list that was lent holds it
+-- a span that is put into the part that was lent is put into the list
 pub put_over_part : {X : Type 0} (items lent ys : List X) (place spare len : ℕ) (y : X) → lent ≡ items → len ≡ length items → place ≤ spare → spare < length items →
     ys ≡ drop (length (take (spare + 1 - place) (drop place lent)) - 1) (take (spare + 1 - place) (drop place lent)) ++ take (length (take (spare + 1 - place) (drop place lent)) - 1) (take (spare + 1 - place) (drop place lent)) →
     set (take len ((take place lent ++ (ys ++ drop (spare + 1 - place) (drop place lent))) ++ drop (length (take place lent ++ (ys ++ drop (spare + 1 - place) (drop place lent)))) items)) place y ≡ insert (remove items spare) place y

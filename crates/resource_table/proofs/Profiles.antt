@@ -303,7 +303,7 @@ over_from points place to ordered over k e le lt =
     let later = ordered place k no_point le lt in
     subst (λ (v : Point). to ≤ v.cycle) (any_default points k no_point e lt) (omega arith)
 
--- the same, where the point at the place was read
+-- points behind a place that was read are none too early
 pub over_read : (points now : List Point) (place to : ℕ) (r : Point) → IsNonDecreasingBy (λ (p : Point). p.cycle) points → ((k : ℕ) (e : Point) → place ≤ k → get_or now k e ≡ get_or points k e) → r ≡ get_or now place r → to ≤ r.cycle →
     (k : ℕ) (e : Point) → place ≤ k → k < length points → to ≤ (get_or points k e).cycle
 over_read points now place to r ordered rest is late = over_from points place to ordered (λ lt.

@@ -82,7 +82,7 @@ module _ {job : JobValue} {trail : SmallVec Placement} {ends : Vec (Option ℕ)}
           let last = r.4 in
           omega arith
 
-  -- the same of the lists that were read
+  -- of the lists that were read
   module _ (tests : List ℕ) (es : List (Option ℕ)) (tests_is : tests ≡ tests_before test job.before) (es_is : es ≡ ends.items) where
     pub read_known : All (λ earlier. earlier < length es) tests
     read_known = rw es_is (rw tests_is before_known)

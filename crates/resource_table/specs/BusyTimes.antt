@@ -176,7 +176,7 @@ pub record IsRemoved (t : TestValue) (span : Span) (old new : Timelines) : Type 
   pub parent : AreTaken t.parent span old.children.items new.children.items
   pub latest : IsBack t.parent old.latest new.latest
 
--- the same timelines without times, with the room that they had
+-- timelines without times, with the room that they had
 pub record AreCleared (old new : List Timeline) : Type 0 where
   pub long : length new ≡ length old
   pub empty : (k : ℕ) (line : Timeline) → slice_get new k ≡ Some line → line.spans.items ≡ []
@@ -190,7 +190,7 @@ pub record AreEmpty (kind : Kind) (tests : List TestValue) (lines : List Timelin
   pub empty : (k : ℕ) (line : Timeline) → slice_get lines k ≡ Some line → line.spans.items ≡ []
   pub room : (k : ℕ) (line : Timeline) → slice_get lines k ≡ Some line → room_of kind k tests ≤ vec_capacity line.spans
 
--- the same of all kinds
+-- timelines of all kinds without times
 pub record AreEmptyTimes (tests : List TestValue) (times : Timelines) : Type 0 where
   pub buses : AreEmpty Bus tests times.buses.items
   pub modules : AreEmpty Own tests times.modules.items

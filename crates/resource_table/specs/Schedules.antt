@@ -22,7 +22,7 @@ end_of job p = p.start + cycles_of job p.test
 abbrev pub IsActive : JobValue → Placement → ℕ → Type 0
 IsActive job p c = (p.start ≤ c) × (c < end_of job p)
 
--- the same as a test
+-- whether it is active
 abbrev pub is_active : JobValue → ℕ → Placement → Bool
 is_active job c p = nat_le p.start c && nat_lt c (end_of job p)
 

@@ -47,7 +47,7 @@ abbrev pub unload_of : Option PatternValue → (n : ℕ) → DataBit
 unload_of None n = Any
 unload_of (Some p) n = get_or p.unload n Any
 
--- the same for the entry at a place
+-- the bit of the load for the entry at a place
 unfoldable pub load_bit : List EntryValue → (place k n : ℕ) → DataBit
 load_bit es place k n = load_of (numbered (slice_get es place) k) n
 

@@ -1,9 +1,5 @@
 //! The end of a call: a verdict that is written at once, or the text of a plan with test data that is written as it is made.
 ghost use Rattle.std.specs.Prelude.{◌≤◌, None};
-ghost use Rattle.soc_model.specs.Chips.{soc_value};
-ghost use Rattle.soc_model.specs.SoundChips.{IsSoundChip};
-ghost use Rattle.plan_model.specs.Rules.{IsGoodAlone};
-ghost use Rattle.plan_model.specs.Views.{plan_value};
 ghost use Rattle.bit_machine.specs.Chips.{wires_of};
 ghost use Rattle.commands.specs.Ends.{WritesUnless, MakesPuts};
 ghost use Rattle.retargeter.specs.DataTexts.{retarget_text};
@@ -12,9 +8,8 @@ ghost use Rattle.retargeter.specs.Endings.{ending_value};
 
 use crate::contents::DataContents;
 use commands::{Accepted, Status, Verdict, write_verdict};
+use live_tests::PlacedPlan;
 use outside::Sink;
-use plan_model::{Plan, good_without_limits};
-use soc_model::Soc;
 use std::alloc::Global;
 use test_data::TestData;
 use tester_vectors::{LinesOutcome, write_lines};
@@ -31,21 +26,20 @@ pub enum Ending {
 /// Writes the vectors of a plan with the contents of test data, as they are made. All memory is taken before the first byte.
 fn write_run<K: Sink>(
     alloc: Global,
-    soc: &Soc,
-    plan: &Plan,
+    placed: &PlacedPlan<'_>,
     test_data: &TestData,
     out: &mut K,
 ) -> Status
-    requires sound { IsSoundChip (soc_value soc.now) }
-    requires good { IsGoodAlone (soc_value soc.now) (plan_value plan.now) }
-    requires narrow { wires_of (plan_value plan.now) ≤ 256 }
+    requires { wires_of placed.now.plan ≤ 256 }
     ensures faults_never_fall { K.faults out.old ≤ K.faults out.new }
-    ensures written { WritesUnless None (retarget_text (soc_value soc.now) (plan_value plan.now) test_data.now)
+    ensures written { WritesUnless None (retarget_text placed.now.soc placed.now.plan test_data.now)
         (K.faults out.old) (K.faults out.new) (K.written out.old) result (K.written out.new) }
     ensures puts { MakesPuts K.is_put out.old result out.new }
 {
+    // opened, so that its chip is known to be sound
+    let _ = &placed.soc;
     let contents = DataContents { test_data };
-    match write_lines(alloc, soc, plan, &contents, out) {
+    match write_lines(alloc, placed, &contents, out) {
         LinesOutcome::Written => Status::Done,
         LinesOutcome::WriteFault => Status::WriteFault,
         LinesOutcome::NoMemory => Status::NoMemory,
@@ -64,8 +58,7 @@ fn write_accepted<K: Sink>(
         (K.faults out.old) (K.faults out.new) (K.written out.old) result (K.written out.new) }
     ensures puts { MakesPuts K.is_put out.old result out.new }
 {
-    good_without_limits();
-    write_run(alloc, &all.soc, &all.plan, test_data, out)
+    write_run(alloc, &all.placed_plan(), test_data, out)
 }
 
 /// Writes what a call ends with, and answers its status.

@@ -3,7 +3,7 @@ ghost use Rattle.std.specs.Prelude.{◌≡◌, IfOk, IsTrue};
 ghost use Rattle.commands.specs.Texts.{is_line, no_feed};
 ghost use Rattle.retargeter.specs.Texts.{bits_line as bits_line_text, data_line as data_line_text, misfit_line as misfit_line_text};
 
-use commands::{numbered, push_decimal, push_test, push_text};
+use commands::{number_line, push_decimal, push_test, push_text};
 use outside::NoMemory;
 use soc_model::TestId;
 use std::alloc::Global;
@@ -14,7 +14,7 @@ pub(crate) fn data_line(alloc: Global, line: u64) -> Result<Vec<u8>, NoMemory>
     ensures text { IfOk result (λ text. text.items ≡ data_line_text line) }
     ensures line { IfOk result (λ text. IsTrue (is_line text.items)) }
 {
-    numbered(alloc, b"refused data line ", u128::from(line))
+    number_line(alloc, b"refused data line ", u128::from(line))
 }
 
 /// `refused data test` and a test.

@@ -1,14 +1,17 @@
 //! The chip, the limits and the plan that the files SOC, LIMITS and PLAN of the rig hold.
-ghost use Rattle.std.specs.Prelude.{IfSome};
+ghost use Rattle.std.specs.Prelude.{◌≡◌, true, IfOk, IfSome};
 ghost use Rattle.soc_model.specs.Chips.{soc_value};
 ghost use Rattle.soc_model.specs.SoundChips.{IsSoundChip};
 ghost use Rattle.plan_model.specs.Faults.{IsFaultless};
 ghost use Rattle.plan_model.specs.SoundLimits.{IsSoundLimits};
 ghost use Rattle.plan_model.specs.Views.{limits_value, plan_value};
+ghost use Rattle.plan_text.specs.Grammar.{AreSmallStarts};
 
 use crate::rig::Rig;
 use limits_text::read_limits;
-use plan_checker::first_fault;
+use live_tests::{Problem, Resolved};
+use outside::NoMemory;
+use plan_checker::judge_plan;
 use plan_model::{Limits, Plan};
 use plan_text::read_plan;
 use soc_model::Soc;
@@ -35,6 +38,27 @@ pub fn limits_of(rig: &Rig, soc: &Soc) -> Option<Limits>
     }
 }
 
+/// Whether a plan is accepted for a problem.
+fn is_faultless(rig: &Rig, problem: &Problem<'_>, plan: &Plan) -> Result<bool, NoMemory>
+    requires { AreSmallStarts (plan_value plan.now).starts }
+    ensures { IfOk result (λ yes. yes ≡ true → IsFaultless problem.now.soc problem.now.limits (plan_value plan.now)) }
+{
+    Ok(judge_plan(rig.alloc(), problem, plan)?.is_ok())
+}
+
+/// Whether a plan is accepted for a chip under limits.
+fn is_accepted(rig: &Rig, soc: &Soc, limits: &Limits, plan: &Plan) -> Result<bool, NoMemory>
+    requires sound { IsSoundChip (soc_value soc.now) }
+    requires limits { IsSoundLimits (soc_value soc.now) (limits_value limits.now) }
+    requires starts { AreSmallStarts (plan_value plan.now).starts }
+    ensures { IfOk result (λ yes. yes ≡ true → IsFaultless (soc_value soc.now) (limits_value limits.now) (plan_value plan.now)) }
+{
+    let resolved = Resolved::new(rig.alloc(), soc, limits)?;
+    let problem = Problem::new(soc, limits, &resolved);
+    let accepted = is_faultless(rig, &problem, plan)?;
+    Ok(accepted)
+}
+
 /// The plan of PLAN for a chip under limits. None where it isn't read or isn't accepted.
 pub fn accepted_plan(rig: &Rig, soc: &Soc, limits: &Limits) -> Option<Plan>
     requires sound { IsSoundChip (soc_value soc.now) }
@@ -44,8 +68,8 @@ pub fn accepted_plan(rig: &Rig, soc: &Soc, limits: &Limits) -> Option<Plan>
     let Ok(plan) = read_plan(rig.alloc(), rig.bytes_of("PLAN")) else {
         return None;
     };
-    match first_fault(rig.alloc(), soc, limits, &plan) {
-        Ok(None) => Some(plan),
+    match is_accepted(rig, soc, limits, &plan) {
+        Ok(true) => Some(plan),
         _ => None,
     }
 }

@@ -94,7 +94,7 @@ empty_list : (tests : List ℕ) → length tests ≡ 0 → tests ≡ []
 empty_list [] none = refl
 empty_list (t ∷ tests) none = absurd cc
 
--- the same of the lists that were read
+-- a test whose list that was read is empty precedes none
 pub read_none : (job : JobValue) (lists : List Neighbours) (lists' : List Neighbours) (test : ℕ) (after : List ℕ) → AreFollowers job (map listed lists) → test < length job.tests → lists' ≡ lists → after ≡ slice_index_or (map listed lists') test [] → length after ≡ 0 →
     (later : ℕ) → Precedes job test later → ⊥
 read_none job lists lists' test after followers inside same is none =

@@ -15,7 +15,7 @@ keywords =
     ∷ codes "TotalTests" ∷ codes "Tests" ∷ codes "Test" ∷ codes "ScanUse" ∷ codes "TamUse" ∷ codes "Patterns" ∷ codes "Power"
     ∷ codes "XY" ∷ []
 
--- the same word but for the case of ASCII letters
+-- two words differ in the case of ASCII letters alone, or not at all
 abbrev pub same_but_for_case : List ℕ → List ℕ → Bool
 same_but_for_case a b = pointwise nat_eq (map to_ascii_lowercase a) (map to_ascii_lowercase b)
 

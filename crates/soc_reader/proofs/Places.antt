@@ -23,7 +23,7 @@ set-change f [] place old new within at changes = absurd (omega arith)
 set-change f (x ∷ xs) zero old new within at changes = ap (λ y. y ∷ xs) (changes ∙ ap f at)
 set-change f (x ∷ xs) (suc place) old new within at changes = ap (λ ys. x ∷ ys) (set-change f xs place old new (omega arith) at changes)
 
--- the same of a module in the chip's map
+-- a module that is changed in the chip's map
 pub module-change : (change : ModuleValue → ModuleValue) (es : List (ℕ × Module)) (place : ℕ) (old new : Module) → slice_get (map {A = ℕ × Module} (λ e. e.1) es) place ≡ Some old → module_value new ≡ change (module_value old) → map value_of (set_value_at es place new) ≡ change_at place change (map value_of es)
 module-change change [] place old new at changes = refl
 module-change change (e ∷ es) zero old new at changes = ap (λ m. m ∷ map value_of es) (changes ∙ ap (λ m. change (module_value m)) (sym (same_Some e.1 old at)))

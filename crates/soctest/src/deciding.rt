@@ -28,7 +28,7 @@ use crate::own_files::{OwnFile, answer_own_file};
 use crate::samples::decide_sample;
 use crate::splitting::decide_split;
 use crate::widths::widths_text;
-use chart::print_chart_with;
+use chart::print_placed;
 use commands::{
     Accepted, Both, Command, Status, Verdict, answered_with, bad_words, command_of, load_all,
     load_both, load_chip,
@@ -166,7 +166,7 @@ fn chart_of(alloc: Global, all: &Accepted) -> Result<Vec<u8>, NoMemory>
     ensures { IfOk result (λ text. text.items ≡ chart_text all.now.soc all.now.plan) }
 {
     good_without_limits();
-    print_chart_with(alloc, &all.soc, &all.plan, &all.resolved.tests)
+    print_placed(alloc, &all.placed_plan())
 }
 
 /// `chart SOC LIMITS PLAN`: the schedule of a plan that is accepted.

@@ -1,9 +1,5 @@
 //! The end of a call: a verdict that is written at once, or vectors that are written as they are made.
 ghost use Rattle.std.specs.Prelude.{◌≤◌};
-ghost use Rattle.soc_model.specs.Chips.{soc_value};
-ghost use Rattle.soc_model.specs.SoundChips.{IsSoundChip};
-ghost use Rattle.plan_model.specs.Rules.{IsGoodAlone};
-ghost use Rattle.plan_model.specs.Views.{plan_value};
 ghost use Rattle.bit_machine.specs.Chips.{wires_of, made_content};
 ghost use Rattle.tester_vectors.specs.VectorText.{vector_text, too_many};
 ghost use Rattle.commands.specs.Ends.{WritesUnless, MakesPuts};
@@ -12,11 +8,10 @@ ghost use Rattle.commands.specs.Endings.{WritesEnding, PutsEnding};
 ghost use Rattle.soctest.specs.Endings.{ending_value};
 
 use commands::{Accepted, Status, Verdict, refused_with, run_line, write_verdict};
+use live_tests::PlacedPlan;
 use outside::Sink;
-use plan_model::{Plan, good_without_limits};
-use soc_model::Soc;
 use std::alloc::Global;
-use tester_vectors::{Outcome, write_vectors};
+use tester_vectors::{Outcome, write_made};
 
 /// How a call ends.
 #[derive(Drop)]
@@ -29,17 +24,14 @@ pub enum Ending {
 
 /// Writes the vectors of a plan as they are made, or the refusal of a run that is too long. All memory is taken before the
 /// first byte.
-fn write_run<K: Sink>(alloc: Global, soc: &Soc, plan: &Plan, seed: u64, out: &mut K) -> Status
-    requires sound { IsSoundChip (soc_value soc.now) }
-    requires good { IsGoodAlone (soc_value soc.now) (plan_value plan.now) }
-    requires narrow { wires_of (plan_value plan.now) ≤ 256 }
+fn write_run<K: Sink>(alloc: Global, placed: &PlacedPlan<'_>, seed: u64, out: &mut K) -> Status
+    requires { wires_of placed.now.plan ≤ 256 }
     ensures faults_never_fall { K.faults out.old ≤ K.faults out.new }
-    ensures written { WritesUnless (run_refusal (too_many (plan_value plan.now)))
-        (vector_text (soc_value soc.now) (plan_value plan.now) (made_content (soc_value soc.now) seed)) (K.faults out.old)
-        (K.faults out.new) (K.written out.old) result (K.written out.new) }
+    ensures written { WritesUnless (run_refusal (too_many placed.now.plan)) (vector_text placed.now.soc placed.now.plan
+        (made_content placed.now.soc seed)) (K.faults out.old) (K.faults out.new) (K.written out.old) result (K.written out.new) }
     ensures puts { MakesPuts K.is_put out.old result out.new }
 {
-    match write_vectors(alloc, soc, plan, seed, out) {
+    match write_made(alloc, placed, seed, out) {
         Outcome::Written => Status::Done,
         Outcome::RunTooLong { cells } => {
             let verdict = refused_with(run_line(alloc, cells));
@@ -57,8 +49,7 @@ fn write_accepted<K: Sink>(alloc: Global, all: &Accepted, seed: u64, out: &mut K
         (made_content all.now.soc seed)) (K.faults out.old) (K.faults out.new) (K.written out.old) result (K.written out.new) }
     ensures puts { MakesPuts K.is_put out.old result out.new }
 {
-    good_without_limits();
-    write_run(alloc, &all.soc, &all.plan, seed, out)
+    write_run(alloc, &all.placed_plan(), seed, out)
 }
 
 /// Writes what a call ends with, and answers its status.

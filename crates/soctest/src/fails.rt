@@ -1,16 +1,11 @@
 //! The text of `locate`.
 ghost use Rattle.std.specs.Prelude.{◌≡◌, ◌++◌, IfOk, OnOk};
-ghost use Rattle.soc_model.specs.Chips.{soc_value};
-ghost use Rattle.soc_model.specs.SoundChips.{IsSoundChip};
-ghost use Rattle.plan_model.specs.Rules.{IsGoodAlone};
-ghost use Rattle.plan_model.specs.Views.{plan_value};
 ghost use Rattle.soctest.specs.LocateText.{cell_text, fail_line, locate_text as whole_text, spot_text};
 
 use commands::{push_decimal, push_test, push_text};
 use fail_locate::{Cell, Locator, Spot};
+use live_tests::PlacedPlan;
 use outside::NoMemory;
-use plan_model::Plan;
-use soc_model::Soc;
 use std::alloc::Global;
 
 /// Appends a cell.
@@ -66,15 +61,12 @@ fn push_fail(
 /// a good plan reads there, or `none`.
 pub fn locate_text(
     alloc: Global,
-    soc: &Soc,
-    plan: &Plan,
+    placed: &PlacedPlan<'_>,
     fails: &[(u64, u64)],
 ) -> Result<Vec<u8>, NoMemory>
-    requires sound { IsSoundChip (soc_value soc.now) }
-    requires good { IsGoodAlone (soc_value soc.now) (plan_value plan.now) }
-    ensures { IfOk result (λ text. text.items ≡ whole_text (soc_value soc.now) (plan_value plan.now) fails.now) }
+    ensures { IfOk result (λ text. text.items ≡ whole_text placed.now.soc placed.now.plan fails.now) }
 {
-    let locator = Locator::new(alloc, soc, plan)?;
+    let locator = Locator::of(alloc, placed)?;
     let mut text = Vec::new(alloc);
     for (cycle, wire) in fails {
         push_fail(&mut text, &locator, *cycle, *wire)?;

@@ -4,7 +4,7 @@ ghost use Rattle.plan_model.specs.Views.{plan_value};
 ghost use Rattle.commands.specs.Texts.{is_line};
 ghost use Rattle.soctest.specs.Texts.{accepted_line as accepted_text, log_line as log_line_text};
 
-use commands::{numbered, push_text, push_two};
+use commands::{number_line, push_text, push_two};
 use outside::NoMemory;
 use plan_model::Plan;
 use std::alloc::Global;
@@ -29,5 +29,5 @@ pub fn log_line(alloc: Global, line: u64) -> Result<Vec<u8>, NoMemory>
     ensures text { IfOk result (λ text. text.items ≡ log_line_text line) }
     ensures line { IfOk result (λ text. IsTrue (is_line text.items)) }
 {
-    numbered(alloc, b"refused log line ", u128::from(line))
+    number_line(alloc, b"refused log line ", u128::from(line))
 }

@@ -10,15 +10,13 @@ use crate::lines::log_line;
 use commands::{Accepted, Status, Verdict, answered_with, refused_with};
 use fail_locate::{LogFault, read_log};
 use outside::NoMemory;
-use plan_model::good_without_limits;
 use std::alloc::Global;
 
 /// What the fails of a log name in a plan that is accepted.
 fn located(alloc: Global, all: &Accepted, fails: &[(u64, u64)]) -> Result<Vec<u8>, NoMemory>
     ensures { IfOk result (λ text. text.items ≡ text_of_fails all.now.soc all.now.plan fails.now) }
 {
-    good_without_limits();
-    locate_text(alloc, &all.soc, &all.plan, fails)
+    locate_text(alloc, &all.placed_plan(), fails)
 }
 
 /// What is answered of a log's bytes, for a plan that is accepted.

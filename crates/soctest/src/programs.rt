@@ -17,7 +17,7 @@ ghost use Rattle.commands.specs.Texts.{is_line, no_feed};
 ghost use Rattle.soctest.specs.ShiftPrograms.{named_test, planned_for, fault_word as word_of_fault, accepted_with, accepted_program as text_of_program, program_line as program_line_text, program_test_line as program_test_text, program_fault_line as program_fault_text, Judges, RefusesProgram, SaysRight};
 
 use commands::{
-    Status, Verdict, answered_with, numbered, push_decimal, push_test, push_text, push_two,
+    Status, Verdict, answered_with, number_line, push_decimal, push_test, push_text, push_two,
     refused_with,
 };
 use outside::NoMemory;
@@ -33,7 +33,7 @@ fn program_line(alloc: Global, line: u64) -> Result<Vec<u8>, NoMemory>
     ensures text { IfOk result (λ text. text.items ≡ program_line_text line) }
     ensures line { IfOk result (λ text. IsTrue (is_line text.items)) }
 {
-    numbered(alloc, b"refused program line ", u128::from(line))
+    number_line(alloc, b"refused program line ", u128::from(line))
 }
 
 /// `refused program test` and the test.

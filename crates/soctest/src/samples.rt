@@ -15,12 +15,13 @@ ghost use Rattle.soctest.specs.Samples.{sample_limits, sample_line as sample_lin
 ghost use Rattle.commands.specs.Texts.{is_line, two_numbers};
 ghost use Rattle.commands.specs.Decides.{Follows};
 
-use crate::deciding::planned_for;
+use crate::deciding::planned;
 use commands::{
-    Status, Verdict, answered_with, numbered, push_decimal, push_text, push_two, refused_with,
+    Status, Verdict, answered_with, number_line, push_decimal, push_text, push_two, refused_with,
 };
+use live_tests::{Problem, Resolved};
 use outside::NoMemory;
-use plan_checker::first_fault;
+use plan_checker::judge_plan;
 use plan_model::{Limits, Plan, Why};
 use sample_maker::{SampleFault, sample};
 use soc_model::{Module, Soc, live};
@@ -118,16 +119,26 @@ fn summary(alloc: Global, n: u64, seed: u64, soc: &Soc, plan: &Plan) -> Result<V
 }
 
 /// The planner's plan, checked once more: it is always accepted.
-fn checked_plan(alloc: Global, soc: &Soc, limits: &Limits) -> Result<Plan, NoMemory>
+fn checked_plan(alloc: Global, problem: &Problem<'_>) -> Result<Plan, NoMemory>
+    ensures { IfOk result (λ plan. IsPlanned problem.now.soc problem.now.limits (plan_value plan)) }
+{
+    let plan = planned(alloc, problem)?;
+    match judge_plan(alloc, problem, &plan)? {
+        Ok(_) => Ok(plan),
+        Err(_) => unreachable!(),
+    }
+}
+
+/// The planner's plan, checked once more, for a chip and limits that aren't resolved yet.
+fn checked_for(alloc: Global, soc: &Soc, limits: &Limits) -> Result<Plan, NoMemory>
     requires chip { IsSoundChip (soc_value soc.now) }
     requires limits { IsSoundLimits (soc_value soc.now) (limits_value limits.now) }
     ensures { IfOk result (λ plan. IsPlanned (soc_value soc.now) (limits_value limits.now) (plan_value plan)) }
 {
-    let plan = planned_for(alloc, soc, limits)?;
-    match first_fault(alloc, soc, limits, &plan)? {
-        None => Ok(plan),
-        Some(_) => unreachable!(),
-    }
+    let resolved = Resolved::new(alloc, soc, limits)?;
+    let problem = Problem::new(soc, limits, &resolved);
+    let plan = checked_plan(alloc, &problem)?;
+    Ok(plan)
 }
 
 /// Plans a made chip, checks the plan, and sums both up.
@@ -138,7 +149,7 @@ fn plan_sample(alloc: Global, n: u64, seed: u64, soc: &Soc) -> Result<Vec<u8>, N
         × (text.items ≡ sample_text n seed (soc_value soc.now) value)) }
 {
     let limits = make_limits(alloc);
-    let plan = checked_plan(alloc, soc, &limits)?;
+    let plan = checked_for(alloc, soc, &limits)?;
     summary(alloc, n, seed, soc, &plan)
 }
 
@@ -147,7 +158,7 @@ fn sample_line(alloc: Global, n: u64) -> Result<Vec<u8>, NoMemory>
     ensures text { IfOk result (λ text. text.items ≡ sample_line_text n) }
     ensures line { IfOk result (λ text. IsTrue (is_line text.items)) }
 {
-    numbered(alloc, b"refused sample ", u128::from(n))
+    number_line(alloc, b"refused sample ", u128::from(n))
 }
 
 /// `sample N SEED`: the summary of the made chip of N modules.

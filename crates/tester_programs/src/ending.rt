@@ -1,9 +1,5 @@
 //! The end of a call: a verdict that is written at once, or a program for a tester that is written as it is made.
 ghost use Rattle.std.specs.Prelude.{◌≡◌, ◌≤◌, None, length};
-ghost use Rattle.soc_model.specs.Chips.{soc_value};
-ghost use Rattle.soc_model.specs.SoundChips.{IsSoundChip};
-ghost use Rattle.plan_model.specs.Rules.{IsGoodAlone};
-ghost use Rattle.plan_model.specs.Views.{plan_value};
 ghost use Rattle.bit_machine.specs.Chips.{wires_of};
 ghost use Rattle.commands.specs.Ends.{WritesUnless, MakesPuts};
 ghost use Rattle.controls.specs.Controls.{controls};
@@ -17,10 +13,9 @@ ghost use Rattle.tester_programs.specs.ProgramEndings.{IsRunnable, ending_value}
 use commands::{Accepted, Status, Verdict, write_verdict};
 use cycle_forms::CycleForm;
 use cycle_texts::write_program;
+use live_tests::PlacedPlan;
 use outside::Sink;
-use plan_model::{Plan, good_without_limits};
 use retargeter::DataContents;
-use soc_model::Soc;
 use std::alloc::Global;
 use stil_text::StilForm;
 use test_data::TestData;
@@ -55,27 +50,26 @@ pub enum ProgramEnding {
 /// Writes a plan with the contents of test data in a form, as it is made. All memory is taken before the first byte.
 fn write_in_form<F: CycleForm, K: Sink>(
     alloc: Global,
-    soc: &Soc,
-    plan: &Plan,
+    placed: &PlacedPlan<'_>,
     test_data: &TestData,
     form: &F,
     out: &mut K,
 ) -> Status
-    requires sound { IsSoundChip (soc_value soc.now) }
-    requires good { IsGoodAlone (soc_value soc.now) (plan_value plan.now) }
-    requires narrow { wires_of (plan_value plan.now) ≤ 256 }
-    requires cycles { (plan_value plan.now).cycles ≤ CYCLE_MOST }
-    requires wires { F.wires_of form.now ≡ wires_of (plan_value plan.now) }
-    requires controls { F.controls_of form.now ≡ length (controls (soc_value soc.now)) }
+    requires narrow { wires_of placed.now.plan ≤ 256 }
+    requires cycles { placed.now.plan.cycles ≤ CYCLE_MOST }
+    requires wires { F.wires_of form.now ≡ wires_of placed.now.plan }
+    requires controls { F.controls_of form.now ≡ length (controls placed.now.soc) }
     ensures faults_never_fall { K.faults out.old ≤ K.faults out.new }
     ensures written { WritesUnless None (program_text (F.head_of form.now) (F.part_of form.now) (F.tail_of form.now)
-        (soc_value soc.now) (plan_value plan.now) (data_content (soc_value soc.now) test_data.now)
-        (data_marks (soc_value soc.now) test_data.now))
+        placed.now.soc placed.now.plan (data_content placed.now.soc test_data.now)
+        (data_marks placed.now.soc test_data.now))
         (K.faults out.old) (K.faults out.new) (K.written out.old) result (K.written out.new) }
     ensures puts { MakesPuts K.is_put out.old result out.new }
 {
+    // opened, so that its chip is known to be sound
+    let _ = &placed.soc;
     let contents = DataContents { test_data };
-    match write_program(alloc, soc, plan, &contents, form, out) {
+    match write_program(alloc, placed, &contents, form, out) {
         LinesOutcome::Written => Status::Done,
         LinesOutcome::WriteFault => Status::WriteFault,
         LinesOutcome::NoMemory => Status::NoMemory,
@@ -85,22 +79,19 @@ fn write_in_form<F: CycleForm, K: Sink>(
 /// Writes a plan with the contents of test data in STIL.
 fn write_stil<K: Sink>(
     alloc: Global,
-    soc: &Soc,
-    plan: &Plan,
+    placed: &PlacedPlan<'_>,
     test_data: &TestData,
     out: &mut K,
 ) -> Status
-    requires sound { IsSoundChip (soc_value soc.now) }
-    requires good { IsGoodAlone (soc_value soc.now) (plan_value plan.now) }
-    requires narrow { wires_of (plan_value plan.now) ≤ 256 }
-    requires cycles { (plan_value plan.now).cycles ≤ CYCLE_MOST }
+    requires narrow { wires_of placed.now.plan ≤ 256 }
+    requires cycles { placed.now.plan.cycles ≤ CYCLE_MOST }
     ensures faults_never_fall { K.faults out.old ≤ K.faults out.new }
-    ensures written { WritesUnless None (tester_program Language.Stil (soc_value soc.now) (plan_value plan.now) test_data.now)
+    ensures written { WritesUnless None (tester_program Language.Stil placed.now.soc placed.now.plan test_data.now)
         (K.faults out.old) (K.faults out.new) (K.written out.old) result (K.written out.new) }
     ensures puts { MakesPuts K.is_put out.old result out.new }
 {
-    match StilForm::new(alloc, soc, plan) {
-        Ok(form) => write_in_form(alloc, soc, plan, test_data, &form, out),
+    match StilForm::new(alloc, placed.soc, placed.plan) {
+        Ok(form) => write_in_form(alloc, placed, test_data, &form, out),
         Err(_) => Status::NoMemory,
     }
 }
@@ -108,22 +99,19 @@ fn write_stil<K: Sink>(
 /// Writes a plan with the contents of test data as a value change dump.
 fn write_vcd<K: Sink>(
     alloc: Global,
-    soc: &Soc,
-    plan: &Plan,
+    placed: &PlacedPlan<'_>,
     test_data: &TestData,
     out: &mut K,
 ) -> Status
-    requires sound { IsSoundChip (soc_value soc.now) }
-    requires good { IsGoodAlone (soc_value soc.now) (plan_value plan.now) }
-    requires narrow { wires_of (plan_value plan.now) ≤ 256 }
-    requires cycles { (plan_value plan.now).cycles ≤ CYCLE_MOST }
+    requires narrow { wires_of placed.now.plan ≤ 256 }
+    requires cycles { placed.now.plan.cycles ≤ CYCLE_MOST }
     ensures faults_never_fall { K.faults out.old ≤ K.faults out.new }
-    ensures written { WritesUnless None (tester_program Language.Vcd (soc_value soc.now) (plan_value plan.now) test_data.now)
+    ensures written { WritesUnless None (tester_program Language.Vcd placed.now.soc placed.now.plan test_data.now)
         (K.faults out.old) (K.faults out.new) (K.written out.old) result (K.written out.new) }
     ensures puts { MakesPuts K.is_put out.old result out.new }
 {
-    match VcdForm::new(alloc, soc, plan) {
-        Ok(form) => write_in_form(alloc, soc, plan, test_data, &form, out),
+    match VcdForm::new(alloc, placed.soc, placed.plan) {
+        Ok(form) => write_in_form(alloc, placed, test_data, &form, out),
         Err(_) => Status::NoMemory,
     }
 }
@@ -131,22 +119,19 @@ fn write_vcd<K: Sink>(
 /// Writes a plan with the contents of test data as a test bench in Verilog.
 fn write_verilog<K: Sink>(
     alloc: Global,
-    soc: &Soc,
-    plan: &Plan,
+    placed: &PlacedPlan<'_>,
     test_data: &TestData,
     out: &mut K,
 ) -> Status
-    requires sound { IsSoundChip (soc_value soc.now) }
-    requires good { IsGoodAlone (soc_value soc.now) (plan_value plan.now) }
-    requires narrow { wires_of (plan_value plan.now) ≤ 256 }
-    requires cycles { (plan_value plan.now).cycles ≤ CYCLE_MOST }
+    requires narrow { wires_of placed.now.plan ≤ 256 }
+    requires cycles { placed.now.plan.cycles ≤ CYCLE_MOST }
     ensures faults_never_fall { K.faults out.old ≤ K.faults out.new }
-    ensures written { WritesUnless None (tester_program Language.Verilog (soc_value soc.now) (plan_value plan.now) test_data.now)
+    ensures written { WritesUnless None (tester_program Language.Verilog placed.now.soc placed.now.plan test_data.now)
         (K.faults out.old) (K.faults out.new) (K.written out.old) result (K.written out.new) }
     ensures puts { MakesPuts K.is_put out.old result out.new }
 {
-    match VerilogForm::new(alloc, soc, plan) {
-        Ok(form) => write_in_form(alloc, soc, plan, test_data, &form, out),
+    match VerilogForm::new(alloc, placed.soc, placed.plan) {
+        Ok(form) => write_in_form(alloc, placed, test_data, &form, out),
         Err(_) => Status::NoMemory,
     }
 }
@@ -155,24 +140,21 @@ fn write_verilog<K: Sink>(
 fn write_in_language<K: Sink>(
     alloc: Global,
     language: Language,
-    soc: &Soc,
-    plan: &Plan,
+    placed: &PlacedPlan<'_>,
     test_data: &TestData,
     out: &mut K,
 ) -> Status
-    requires sound { IsSoundChip (soc_value soc.now) }
-    requires good { IsGoodAlone (soc_value soc.now) (plan_value plan.now) }
-    requires narrow { wires_of (plan_value plan.now) ≤ 256 }
-    requires cycles { (plan_value plan.now).cycles ≤ CYCLE_MOST }
+    requires narrow { wires_of placed.now.plan ≤ 256 }
+    requires cycles { placed.now.plan.cycles ≤ CYCLE_MOST }
     ensures faults_never_fall { K.faults out.old ≤ K.faults out.new }
-    ensures written { WritesUnless None (tester_program language (soc_value soc.now) (plan_value plan.now) test_data.now)
+    ensures written { WritesUnless None (tester_program language placed.now.soc placed.now.plan test_data.now)
         (K.faults out.old) (K.faults out.new) (K.written out.old) result (K.written out.new) }
     ensures puts { MakesPuts K.is_put out.old result out.new }
 {
     match language {
-        Language::Stil => write_stil(alloc, soc, plan, test_data, out),
-        Language::Vcd => write_vcd(alloc, soc, plan, test_data, out),
-        Language::Verilog => write_verilog(alloc, soc, plan, test_data, out),
+        Language::Stil => write_stil(alloc, placed, test_data, out),
+        Language::Vcd => write_vcd(alloc, placed, test_data, out),
+        Language::Verilog => write_verilog(alloc, placed, test_data, out),
     }
 }
 
@@ -190,8 +172,7 @@ fn write_accepted<K: Sink>(
         (K.faults out.old) (K.faults out.new) (K.written out.old) result (K.written out.new) }
     ensures puts { MakesPuts K.is_put out.old result out.new }
 {
-    good_without_limits();
-    write_in_language(alloc, language, &all.soc, &all.plan, test_data, out)
+    write_in_language(alloc, language, &all.placed_plan(), test_data, out)
 }
 
 /// Writes what a call ends with, and answers its status.

@@ -67,9 +67,10 @@ module _ {keys : Keys} {drive : ℕ → ℕ → ℕ → Bool} {mark : ℕ → �
   same_lines from count text is =
       is content marks (rw (← e) at stand) ∙ ap (λ s. lines_of s plan content marks from count) e ∙ ap (λ p. lines_of soc' p content marks from count) f
 
-  pub same_front : (a c : Option (List ℕ)) →
-      ((content : Content) (marks : Marks) → StandFor keys drive mark soc content marks → AppendedFront a (marked_text soc plan content marks) c) →
-      AppendedFront a (marked_text soc' plan' content marks) c
-  same_front a c is =
-      subst (λ (p : PlanValue). AppendedFront a (marked_text soc' p content marks) c) f (subst (λ (s : SocValue). AppendedFront a (marked_text s plan content marks) c) e
+  -- what holds of the text of the plan, for all that contents stand for
+  pub same_text : (P : List ℕ → Type 0) →
+      ((content : Content) (marks : Marks) → StandFor keys drive mark soc content marks → P (marked_text soc plan content marks)) →
+      P (marked_text soc' plan' content marks)
+  same_text P is =
+      subst (λ (p : PlanValue). P (marked_text soc' p content marks)) f (subst (λ (s : SocValue). P (marked_text s plan content marks)) e
       (is content marks (rw (← e) at stand)))

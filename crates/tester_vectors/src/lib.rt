@@ -8,8 +8,9 @@
 ghost use Rattle.std.specs.Prelude.{◌≡◌, ℕ, ◌<◌, ◌≤◌, true, false};
 ghost use Rattle.soc_model.specs.Chips.{soc_value};
 ghost use Rattle.soc_model.specs.SoundChips.{IsSoundChip};
-ghost use Rattle.plan_model.specs.Rules.{IsGoodAlone};
+ghost use Rattle.plan_model.specs.Rules.{IsGoodAlone, live_ids};
 ghost use Rattle.plan_model.specs.Views.{plan_value};
+ghost use Rattle.live_tests.specs.Placed.{IsPlaced};
 ghost use Rattle.outside.specs.Held.{Rose, Appended, AppendedFront};
 ghost use Rattle.outside.specs.Puts.{Puts};
 ghost use Rattle.plan_model.specs.Runs.{Content};
@@ -24,7 +25,7 @@ mod text;
 
 use bit_machine::{Contents, MadeContents, made_contents_stand};
 pub use laws::{marks_are_reads, marks_stand, vectors_run_as_shown};
-use live_tests::all_wires;
+use live_tests::{LiveTests, Placed, PlacedPlan, all_wires};
 use outside::Sink;
 use plan_model::Plan;
 use soc_model::Soc;
@@ -69,19 +70,16 @@ pub enum LinesOutcome {
 /// then written.
 pub fn write_lines<C: Contents, K: Sink>(
     alloc: Global,
-    soc: &Soc,
-    plan: &Plan,
+    placed: &PlacedPlan<'_>,
     contents: &C,
     out: &mut K,
 ) -> LinesOutcome
-    requires sound { IsSoundChip (soc_value soc.now) }
-    requires good { IsGoodAlone (soc_value soc.now) (plan_value plan.now) }
-    requires narrow { wires_of (plan_value plan.now) ≤ 256 }
+    requires { wires_of placed.now.plan ≤ 256 }
     ensures faults_never_fall { K.faults out.old ≤ K.faults out.new }
     ensures written { result ≡ LinesOutcome.Written → (content : Content) (marks : Marks) →
-        StandFor (C.keys contents.now) (C.drive contents.now) (C.mark contents.now) (soc_value soc.now) content marks →
-        Appended (K.written out.old) (marked_text (soc_value soc.now) (plan_value plan.now) content marks) (K.written out.new) }
-    ensures marks { (marks : Marks) → MarksStand (soc_value soc.now) (plan_value plan.now) marks }
+        StandFor (C.keys contents.now) (C.drive contents.now) (C.mark contents.now) placed.now.soc content marks →
+        Appended (K.written out.old) (marked_text placed.now.soc placed.now.plan content marks) (K.written out.new) }
+    ensures marks { (marks : Marks) → MarksStand placed.now.soc placed.now.plan marks }
     ensures no_memory_writes_nothing { result ≡ LinesOutcome.NoMemory → out.new ≡ out.old }
 
     // No put fails but the last one, and none is empty.
@@ -90,10 +88,10 @@ pub fn write_lines<C: Contents, K: Sink>(
 
     ensures fault { result ≡ LinesOutcome.WriteFault → Rose (K.faults out.old) (K.faults out.new) }
     ensures front { result ≡ LinesOutcome.WriteFault → (content : Content) (marks : Marks) →
-        StandFor (C.keys contents.now) (C.drive contents.now) (C.mark contents.now) (soc_value soc.now) content marks →
-        AppendedFront (K.written out.old) (marked_text (soc_value soc.now) (plan_value plan.now) content marks) (K.written out.new) }
+        StandFor (C.keys contents.now) (C.drive contents.now) (C.mark contents.now) placed.now.soc content marks →
+        AppendedFront (K.written out.old) (marked_text placed.now.soc placed.now.plan content marks) (K.written out.new) }
 {
-    let mut run = match Run::new(alloc, soc, plan, contents, all_wires(plan)) {
+    let mut run = match Run::new(alloc, placed, contents, all_wires(placed.plan)) {
         Ok(run) => run,
         Err(_) => return LinesOutcome::NoMemory,
     };
@@ -101,6 +99,71 @@ pub fn write_lines<C: Contents, K: Sink>(
         Ok(()) => LinesOutcome::Written,
         Err(_) => LinesOutcome::WriteFault,
     }
+}
+
+/// Writes the vectors of a good plan with the made contents of a seed, where what the plan says by place is at hand.
+fn lines_by<K: Sink>(
+    alloc: Global,
+    soc: &Soc,
+    plan: &Plan,
+    seed: u64,
+    names: &LiveTests,
+    places: &Placed,
+    out: &mut K,
+) -> LinesOutcome
+    requires sound { IsSoundChip (soc_value soc.now) }
+    requires good { IsGoodAlone (soc_value soc.now) (plan_value plan.now) }
+    requires narrow { wires_of (plan_value plan.now) ≤ 256 }
+    requires names { names.now ≡ live_ids (soc_value soc.now) }
+    requires places { IsPlaced (soc_value soc.now) (plan_value plan.now) places.now }
+    ensures faults_never_fall { K.faults out.old ≤ K.faults out.new }
+    ensures written { result ≡ LinesOutcome.Written → Appended (K.written out.old)
+        (whole_text (soc_value soc.now) (plan_value plan.now) (made_content (soc_value soc.now) seed)) (K.written out.new) }
+    ensures no_memory_writes_nothing { result ≡ LinesOutcome.NoMemory → out.new ≡ out.old }
+    ensures none_failed { result ≡ LinesOutcome.Written → Puts K.is_put out.old false out.new }
+    ensures last_failed { result ≡ LinesOutcome.WriteFault → Puts K.is_put out.old true out.new }
+    ensures fault { result ≡ LinesOutcome.WriteFault → Rose (K.faults out.old) (K.faults out.new) }
+    ensures front { result ≡ LinesOutcome.WriteFault → AppendedFront (K.written out.old)
+        (whole_text (soc_value soc.now) (plan_value plan.now) (made_content (soc_value soc.now) seed)) (K.written out.new) }
+{
+    let placed = PlacedPlan::new(soc, plan, names, places);
+    made_contents_stand();
+    write_lines(alloc, &placed, &MadeContents { seed }, out)
+}
+
+/// Places a good plan, and writes its vectors with the made contents of a seed.
+fn lines_of_plan<K: Sink>(
+    alloc: Global,
+    soc: &Soc,
+    plan: &Plan,
+    seed: u64,
+    out: &mut K,
+) -> LinesOutcome
+    requires sound { IsSoundChip (soc_value soc.now) }
+    requires good { IsGoodAlone (soc_value soc.now) (plan_value plan.now) }
+    requires narrow { wires_of (plan_value plan.now) ≤ 256 }
+    ensures faults_never_fall { K.faults out.old ≤ K.faults out.new }
+    ensures written { result ≡ LinesOutcome.Written → Appended (K.written out.old)
+        (whole_text (soc_value soc.now) (plan_value plan.now) (made_content (soc_value soc.now) seed)) (K.written out.new) }
+    ensures no_memory_writes_nothing { result ≡ LinesOutcome.NoMemory → out.new ≡ out.old }
+    ensures none_failed { result ≡ LinesOutcome.Written → Puts K.is_put out.old false out.new }
+    ensures last_failed { result ≡ LinesOutcome.WriteFault → Puts K.is_put out.old true out.new }
+    ensures fault { result ≡ LinesOutcome.WriteFault → Rose (K.faults out.old) (K.faults out.new) }
+    ensures front { result ≡ LinesOutcome.WriteFault → AppendedFront (K.written out.old)
+        (whole_text (soc_value soc.now) (plan_value plan.now) (made_content (soc_value soc.now) seed)) (K.written out.new) }
+{
+    let Ok(names) = LiveTests::new(alloc, soc) else {
+        return LinesOutcome::NoMemory;
+    };
+    let Ok(places) = Placed::new(alloc, soc, plan) else {
+        drop(names);
+        return LinesOutcome::NoMemory;
+    };
+    let outcome = lines_by(alloc, soc, plan, seed, &names, &places, out);
+    // dropped by calls: the end of the scope would drop each of their parts, and be proved for each
+    drop(names);
+    drop(places);
+    outcome
 }
 
 /// Writes the vectors of a good plan of a sound chip, with the made contents of a seed: a line `vectors W C` with the wires
@@ -145,8 +208,47 @@ pub fn write_vectors<K: Sink>(
     if let Some(cells) = too_many_cells(plan) {
         return Outcome::RunTooLong { cells };
     }
+    match lines_of_plan(alloc, soc, plan, seed, out) {
+        LinesOutcome::Written => Outcome::Written,
+        LinesOutcome::WriteFault => Outcome::WriteFault,
+        LinesOutcome::NoMemory => Outcome::NoMemory,
+    }
+}
+
+/// Writes the vectors of a placed plan, as [`write_vectors`] does those of a plan.
+pub fn write_made<K: Sink>(
+    alloc: Global,
+    placed: &PlacedPlan<'_>,
+    seed: u64,
+    out: &mut K,
+) -> Outcome
+    requires { wires_of placed.now.plan ≤ 256 }
+    ensures faults_never_fall { K.faults out.old ≤ K.faults out.new }
+    ensures written { result ≡ Outcome.Written → Appended (K.written out.old)
+        (whole_text placed.now.soc placed.now.plan (made_content placed.now.soc seed)) (K.written out.new) }
+    ensures run { RunsAsShown placed.now.soc placed.now.plan (made_content placed.now.soc seed)
+        (whole_text placed.now.soc placed.now.plan (made_content placed.now.soc seed)) }
+    ensures marks { MarksReads placed.now.soc placed.now.plan (made_content placed.now.soc seed) }
+
+    ensures too_long { RUN_MOST < cycles_by_wires placed.now.plan →
+        result ≡ Outcome.RunTooLong (cycles_by_wires placed.now.plan) }
+    ensures only { (cells : ℕ) → result ≡ Outcome.RunTooLong cells → RUN_MOST < cycles_by_wires placed.now.plan }
+    ensures too_long_writes_nothing { (cells : ℕ) → result ≡ Outcome.RunTooLong cells → out.new ≡ out.old }
+    ensures no_memory_writes_nothing { result ≡ Outcome.NoMemory → out.new ≡ out.old }
+
+    // No put fails but the last one, and none is empty.
+    ensures none_failed { result ≡ Outcome.Written → Puts K.is_put out.old false out.new }
+    ensures last_failed { result ≡ Outcome.WriteFault → Puts K.is_put out.old true out.new }
+
+    ensures fault { result ≡ Outcome.WriteFault → Rose (K.faults out.old) (K.faults out.new) }
+    ensures front { result ≡ Outcome.WriteFault → AppendedFront (K.written out.old)
+        (whole_text placed.now.soc placed.now.plan (made_content placed.now.soc seed)) (K.written out.new) }
+{
+    if let Some(cells) = too_many_cells(placed.plan) {
+        return Outcome::RunTooLong { cells };
+    }
     made_contents_stand();
-    match write_lines(alloc, soc, plan, &MadeContents { seed }, out) {
+    match write_lines(alloc, placed, &MadeContents { seed }, out) {
         LinesOutcome::Written => Outcome::Written,
         LinesOutcome::WriteFault => Outcome::WriteFault,
         LinesOutcome::NoMemory => Outcome::NoMemory,

@@ -1,21 +1,19 @@
 //! A run of vectors and its text.
 ghost use Rattle.std.specs.Prelude.{◌≡◌, ◌+◌, ◌*◌, ◌++◌, ◌<◌, ◌≤◌, length, max, nat_lt, take, IfOk, OnOk, OnErr, true, false};
 ghost use Rattle.soc_model.specs.Chips.{soc_value};
-ghost use Rattle.soc_model.specs.SoundChips.{IsSoundChip};
 ghost use Rattle.outside.specs.Held.{Rose, Appended, AppendedFront};
 ghost use Rattle.outside.specs.Puts.{Puts};
-ghost use Rattle.plan_model.specs.Rules.{IsGoodAlone};
 ghost use Rattle.plan_model.specs.Views.{plan_value};
 ghost use Rattle.plan_model.specs.Runs.{Content};
 ghost use Rattle.bit_machine.specs.Chips.{wires_of};
 ghost use Rattle.bit_machine.specs.Marks.{Marks};
 ghost use Rattle.bit_machine.specs.Placed.{StandFor};
 ghost use Rattle.tester_vectors.specs.VectorText.{head_line, marked_text, more_than, too_many};
-ghost use Rattle.tester_vectors.specs.Lines.{lines_of, IsRun, IsRunOf, IsSamePlan};
+ghost use Rattle.tester_vectors.specs.Lines.{lines_of, IsRun, IsSamePlan};
 
 use crate::RUN_MOST;
 use bit_machine::{Contents, Vectors};
-use live_tests::all_wires;
+use live_tests::{PlacedPlan, all_wires};
 use outside::{NoMemory, Sink, WriteFault, extend, push_number, put_all};
 use plan_model::Plan;
 use soc_model::Soc;
@@ -110,26 +108,24 @@ pub struct Run<'a> {
 }
 
 impl<'a> Run<'a> {
-    /// A run of a good plan of a sound chip, for contents.
+    /// A run of a placed plan, for contents.
     pub fn new<C: Contents>(
         alloc: Global,
-        soc: &'a Soc,
-        plan: &'a Plan,
+        placed: &PlacedPlan<'a>,
         contents: &C,
         wires: u64,
     ) -> Result<Run<'a>, NoMemory>
-        requires sound { IsSoundChip (soc_value soc.now) }
-        requires good { IsGoodAlone (soc_value soc.now) (plan_value plan.now) }
-        requires wires { wires ≡ wires_of (plan_value plan.now) }
+        requires wires { wires ≡ wires_of placed.now.plan }
         requires few { wires ≤ 256 }
-        ensures soc { IfOk result (λ run. run.soc.now ≡ soc.now) }
-        ensures plan { IfOk result (λ run. run.plan.now ≡ plan.now) }
-        ensures run { IfOk result (IsRunOf (C.keys contents.now) (soc_value soc.now) (plan_value plan.now)) }
+        ensures soc { IfOk result (λ run. soc_value run.soc.now ≡ placed.now.soc) }
+        ensures plan { IfOk result (λ run. plan_value run.plan.now ≡ placed.now.plan) }
+        ensures run { IfOk result (IsRun (C.keys contents.now)) }
     {
+        let (soc, plan) = (placed.soc, placed.plan);
         let line = line_length(wires as usize);
         let lines = lines_in_block(line, plan.cycles);
         let block = bytes(alloc, lines as usize * line)?;
-        let vectors = Vectors::new(alloc, soc, plan, contents)?;
+        let vectors = Vectors::new(alloc, placed, contents)?;
         let mut head = Vec::new(alloc);
         push_head(&mut head, wires, plan.cycles)?;
         Ok(Run {

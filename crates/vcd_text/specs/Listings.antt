@@ -27,7 +27,7 @@ pub record GoesOn (old now : Listing) (rest all : List Variable) : Type 0 where
   pub sources : control_sources now.places.items ++ sources_in rest ≡ control_sources old.places.items ++ sources_in all
   pub first : now.first ≡ old.first
 
--- the same of scopes
+-- with these scopes added it is a listing that these were added to at first
 pub record ScopesGoOn (old now : Listing) (rest all : List Scope) : Type 0 where
   pub text : now.text.items ++ scope_lines (number_of now) rest ≡ old.text.items ++ scope_lines (number_of old) all
   pub sources : control_sources now.places.items ++ sources_of rest ≡ control_sources old.places.items ++ sources_of all

@@ -74,7 +74,7 @@ get_replicate zero x k y at = absurd cc
 get_replicate (suc n) x zero y at = cc
 get_replicate (suc n) x (suc k) y at = get_replicate n x k y at
 
--- the same choice at each width up to another one, over which the time stays
+-- one choice at each width up to another one, over which the time stays
 get_behind : {X : Type 0} (xs ys : List X) (k : ℕ) (y : X) → slice_get (xs ++ ys) k ≡ Some y → ((length xs ≤ k) × (slice_get ys (k - length xs) ≡ Some y)) ⊎ (slice_get xs k ≡ Some y)
 get_behind [] ys k y at = let e : k - 0 ≡ k = omega arith in inl (omega arith, rw e at)
 get_behind (x ∷ xs) ys zero y at = inr at

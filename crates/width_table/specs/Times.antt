@@ -16,7 +16,7 @@ mode_tests m scan = filter (is_of_mode scan) m.tests
 abbrev pub time_in : ModuleValue → Bool → List ChainValue → ℕ
 time_in m scan chains = sum_by (λ (t : Test). length (operations_of m t (chain_cells m scan chains))) (mode_tests m scan)
 
--- the same in the wrapper that is designed at a width
+-- their length in the wrapper that is designed at a width
 unfoldable pub mode_time : ModuleValue → Bool → ℕ → ℕ
 mode_time m scan width = time_in m scan (design (mode_of m scan) width)
 

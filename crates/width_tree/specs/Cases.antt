@@ -36,7 +36,7 @@ abbrev pub case_at : Case → (ℕ → Case) → Option ℕ → Case
 case_at c f None = c
 case_at c f (Some place) = f place
 
--- the same by the module's number
+-- the case narrowed at the module of a number, where there is one
 abbrev pub narrow_case : SocValue → Case → (number width : ℕ) → Case
 narrow_case soc c m width = case_at c (narrow_at c width) (module_place soc m)
 

@@ -32,15 +32,15 @@ returns-in-Improve-clause-headline g c =
 
 pub returns-in-Picture-clause-answers : goal.returns-in-Picture-clause-answers
 returns-in-Picture-clause-answers g c =
-    answers_chosen top_call.Picture (command_of (map string_bytes c.args.words.now)) (sym c.in-Picture.is ∙ c.top_call.ensures) c.draw.ensures.answers
+    answers_chosen top_call.Picture (command_of (map string_bytes c.args.words.now)) (sym c.in-Picture.is ∙ c.top_call.ensures) c.draw_plan.ensures.answers
 
 pub returns-in-Picture-clause-by_words : goal.returns-in-Picture-clause-by_words
 returns-in-Picture-clause-by_words g c =
-    by_words_chosen top_call.Picture (command_of (map string_bytes c.args.words.now)) (sym c.in-Picture.is ∙ c.top_call.ensures) (Rose (g.K.Sink.faults c.args.out.now) (g.K.Sink.faults c.draw.new.out)) c.draw.result c.draw.ensures.answers.by_words
+    by_words_chosen top_call.Picture (command_of (map string_bytes c.args.words.now)) (sym c.in-Picture.is ∙ c.top_call.ensures) (Rose (g.K.Sink.faults c.args.out.now) (g.K.Sink.faults c.draw_plan.new.out)) c.draw_plan.result c.draw_plan.ensures.answers.by_words
 
 pub returns-in-Picture-clause-untouched : goal.returns-in-Picture-clause-untouched
 returns-in-Picture-clause-untouched g c =
-    λ none. c.draw.ensures.answers.untouched (asks_nothing (procedure_by top_call.Picture) (command_of (map string_bytes c.args.words.now)) none)
+    λ none. c.draw_plan.ensures.answers.untouched (asks_nothing (procedure_by top_call.Picture) (command_of (map string_bytes c.args.words.now)) none)
 
 pub returns-in-Picture-clause-quiet : goal.returns-in-Picture-clause-quiet
 returns-in-Picture-clause-quiet g c =
@@ -52,7 +52,7 @@ returns-in-Picture-clause-reported g c =
 
 pub returns-in-Picture-clause-headline : goal.returns-in-Picture-clause-headline
 returns-in-Picture-clause-headline g c =
-    headline_chosen top_call.Picture (command_of (map string_bytes c.args.words.now)) (sym c.in-Picture.is ∙ c.top_call.ensures) (g.H.Shelf.held c.args.shelf.now) (g.K.Sink.written c.args.out.now) c.draw.result (g.K.Sink.written c.draw.new.out) c.draw.ensures.headline
+    headline_chosen top_call.Picture (command_of (map string_bytes c.args.words.now)) (sym c.in-Picture.is ∙ c.top_call.ensures) (g.H.Shelf.held c.args.shelf.now) (g.K.Sink.written c.args.out.now) c.draw_plan.result (g.K.Sink.written c.draw_plan.new.out) c.draw_plan.ensures.headline
 
 pub returns-in-Simulate-clause-answers : goal.returns-in-Simulate-clause-answers
 returns-in-Simulate-clause-answers g c =

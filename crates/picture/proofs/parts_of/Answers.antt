@@ -1,24 +1,21 @@
-use Rattle.std.proofs.Common.{◌∙◌}
+use Rattle.std.proofs.Common.{sym, subst, IfOk}
 use Rattle.soc_model.specs.Chips.{soc_value}
 use Rattle.plan_model.specs.Views.{limits_value, plan_value}
+use Rattle.live_tests.specs.PlacedPlans.{PlacedPlanValue}
+use Rattle.picture.specs.Laws.{AreParts, AreTestsOf}
 use Rattle.picture.proofs.parts_of.Goals as goal
-
-pub tests_placed-requires-clause-good : goal.tests_placed-requires-clause-good
-tests_placed-requires-clause-good c = c.good_without_limits.ensures.alone (soc_value c.args.soc.now) (limits_value c.args.limits.now) (plan_value c.args.plan.now) c.requires.good
 
 pub parts_with-requires : goal.parts_with-requires
 parts_with-requires c = (
-  soc_value c.args.soc.now,
-  record {
-    sound_limits = c.requires.sound_limits;
-    good = c.requires.good;
-    placed = c.deref.ensures.value ∙ c.in_ok-tests.ensures;
-  },
+  soc_value c.placed.inside.soc.now,
+  subst (λ (p : PlacedPlanValue). AreTestsOf p.soc (limits_value c.args.limits.now) p.plan c.tests.result.now) (sym c.placed.view_is)
+      (record { sound_limits = c.requires.sound_limits; good = c.requires.good; placed = c.tests.ensures }),
 )
 
 pub returns : goal.returns
-returns c = c.parts_with.ensures (soc_value c.args.soc.now) (record {
-  sound_limits = c.requires.sound_limits;
-  good = c.requires.good;
-  placed = c.deref.ensures.value ∙ c.in_ok-tests.ensures;
-})
+returns c =
+    let given : AreTestsOf (soc_value c.placed.inside.soc.now) (limits_value c.args.limits.now) (plan_value c.placed.inside.plan.now) c.tests.result.now =
+    subst (λ (p : PlacedPlanValue). AreTestsOf p.soc (limits_value c.args.limits.now) p.plan c.tests.result.now) (sym c.placed.view_is)
+    (record { sound_limits = c.requires.sound_limits; good = c.requires.good; placed = c.tests.ensures }) in
+    subst (λ (p : PlacedPlanValue). IfOk c.parts_with.result (AreParts p.soc (limits_value c.args.limits.now) p.plan)) c.placed.view_is
+    (c.parts_with.ensures (soc_value c.placed.inside.soc.now) given)

@@ -30,13 +30,3 @@ returns-in-NoMemory-clause-run g c = runs_as_shown (soc_value c.args.soc.now) (b
 
 pub returns-in-NoMemory-clause-marks : goal.returns-in-NoMemory-clause-marks
 returns-in-NoMemory-clause-marks g c = marks_stand_in (soc_value c.args.soc.now) (bare_limits (plan_value c.args.plan.now)) (plan_value c.args.plan.now) (response_digits (made_content (soc_value c.args.soc.now) c.args.seed)) c.requires.good
-
-pub returns-in-Written-clause-written : goal.returns-in-Written-clause-written
-returns-in-Written-clause-written g c = λ is.
-    c.write_lines.ensures.written c.in-Written.is (made_content (soc_value c.args.soc.now) c.args.seed) (response_digits (made_content (soc_value c.args.soc.now) c.args.seed))
-    (c.made_contents_stand.ensures (soc_value c.args.soc.now) c.args.seed c.requires.sound)
-
-pub returns-in-WriteFault-clause-front : goal.returns-in-WriteFault-clause-front
-returns-in-WriteFault-clause-front g c = λ is.
-    c.write_lines.ensures.front c.in-WriteFault.is (made_content (soc_value c.args.soc.now) c.args.seed) (response_digits (made_content (soc_value c.args.soc.now) c.args.seed))
-    (c.made_contents_stand.ensures (soc_value c.args.soc.now) c.args.seed c.requires.sound)

@@ -4,4 +4,4 @@ use Rattle.control_rows.specs.Tests.{controlled_in}
 use Rattle.control_rows.proofs.placing.push_module.Given as goal
 
 abbrev pub invariant-loop-test : goal.invariant-loop-test
-invariant-loop-test l = l.tests.items ≡ l.initial.tests.items ++ controlled_in l.chip.index.now l.place l.before (module_value l.«module») (take l.test-index l.«module».tests.items)
+invariant-loop-test l = l.tests.items ≡ l.initial.tests.items ++ controlled_in l.placed.plan l.place l.before (module_value l.«module») (take l.test-index l.«module».tests.items)

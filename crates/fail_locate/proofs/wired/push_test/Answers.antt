@@ -1,12 +1,12 @@
 use Rattle.std.proofs.Common.{◌∙◌, sym}
 use Rattle.std.proofs.lemmas.Bool.{and_parts}
 use Rattle.std.proofs.lemmas.Result.{on_ok_weaker}
-use Rattle.soc_model.specs.Chips.{soc_value, module_value, is_live}
+use Rattle.soc_model.specs.Chips.{module_value, is_live}
 use Rattle.fail_locate.proofs.KeptTests.{wired_test, other_test}
 use Rattle.fail_locate.proofs.wired.push_test.Goals as goal
 
 pub returns-then-not-over_wires : goal.returns-then-not-over_wires
-returns-then-not-over_wires c = λ done are. other_test (soc_value c.args.chip.now.soc.now) c.args.chip.now.index.now c.args.core.now.place (module_value c.args.core.now.«module».now) c.args.test.now done c.args.tests.now.items (sym c.over_wires.ensures ∙ c.if-not-over_wires.true) are
+returns-then-not-over_wires c = λ done are. other_test c.args.placed.now.soc c.args.placed.now.plan c.args.place (module_value c.args.«module».now) c.args.test.now done c.args.tests.now.items (sym c.over_wires.ensures ∙ c.if-not-over_wires.true) are
 
 pub wired-requires-clause-live : goal.wired-requires-clause-live
 wired-requires-clause-live c = (and_parts (is_live c.args.test.now) c.args.test.now.tam (sym c.over_wires.ensures ∙ c.if-not-over_wires.false)).0
@@ -16,4 +16,4 @@ wired-requires-clause-tam c = (and_parts (is_live c.args.test.now) c.args.test.n
 
 pub returns : goal.returns
 returns c = λ done are.
-    on_ok_weaker c.push.result (λ pushed. wired_test (soc_value c.args.chip.now.soc.now) c.args.chip.now.index.now c.args.core.now.place (module_value c.args.core.now.«module».now) c.args.test.now done c.args.tests.now.items c.push.new.to.items c.wired.result (sym c.over_wires.ensures ∙ c.if-not-over_wires.false) are pushed c.wired.ensures) c.push.ensures.ok
+    on_ok_weaker c.push.result (λ pushed. wired_test c.args.placed.now.soc c.args.placed.now.plan c.args.place (module_value c.args.«module».now) c.args.test.now done c.args.tests.now.items c.push.new.to.items c.wired.result (sym c.over_wires.ensures ∙ c.if-not-over_wires.false) are pushed c.wired.ensures) c.push.ensures.ok

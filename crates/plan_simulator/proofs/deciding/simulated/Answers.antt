@@ -13,4 +13,4 @@ returns-in-Some c =
 pub returns-in-None : goal.returns-in-None
 returns-in-None c =
     let short : run_refusal (too_many c.args.all.now.plan) ≡ None = ap (option_map run_line) (sym c.long_run.ensures ∙ c.in-None.is) in
-    gives_text (run_refusal (too_many c.args.all.now.plan)) (λ (text : List ℕ). text ≡ simulated_text c.args.all.now.soc c.args.all.now.plan c.args.seed) c.text_of.result c.answered_with.result short c.text_of.ensures c.answered_with.ensures
+    gives_text (run_refusal (too_many c.args.all.now.plan)) (λ (text : List ℕ). text ≡ simulated_text c.args.all.now.soc c.args.all.now.plan c.args.seed) c.counts_of.result c.answered_with.result short c.counts_of.ensures c.answered_with.ensures

@@ -1,8 +1,6 @@
 use Rattle.std.proofs.Common.{◌≡◌, ◌++◌, drop, flat_map}
-use Rattle.soc_model.specs.Chips.{soc_value}
-use Rattle.plan_model.specs.Views.{plan_value}
 use Rattle.soctest.specs.LocateText.{fail_line}
 use Rattle.soctest.proofs.fails.locate_text.Given as goal
 
 abbrev pub invariant-loop-cycle : goal.invariant-loop-cycle
-invariant-loop-cycle l = l.text.items ++ flat_map (fail_line (soc_value l.soc) (plan_value l.plan)) (drop l.cycle-index l.fails) ≡ flat_map (fail_line (soc_value l.soc) (plan_value l.plan)) l.fails
+invariant-loop-cycle l = l.text.items ++ flat_map (fail_line l.placed.soc l.placed.plan) (drop l.cycle-index l.fails) ≡ flat_map (fail_line l.placed.soc l.placed.plan) l.fails

@@ -1,17 +1,19 @@
-use Rattle.std.proofs.Common.{List, ℕ, None, subst}
-use Rattle.soc_model.specs.Chips.{soc_value}
-use Rattle.plan_model.specs.Views.{plan_value}
+use Rattle.std.proofs.Common.{List, None, ap, length, subst, ℕ, ◌∙◌}
+use Rattle.live_tests.specs.PlacedPlans.{PlacedPlanValue}
+use Rattle.bit_machine.specs.Chips.{wires_of}
+use Rattle.controls.specs.Controls.{controls}
+use Rattle.stil_text.specs.StilText.{stil_head}
 use Rattle.commands.specs.Ends.{WritesUnless}
 use Rattle.tester_programs.proofs.Programs.{stil_program}
 use Rattle.tester_programs.proofs.ending.write_stil.Goals as goal
 
 pub write_in_form-requires-clause-wires : goal.write_in_form-requires-clause-wires
-write_in_form-requires-clause-wires g c = c.in-Ok.ensures.wires
+write_in_form-requires-clause-wires g c = c.in-Ok.ensures.wires ∙ ap (λ (p : PlacedPlanValue). wires_of p.plan) c.placed.view_is
 
 pub write_in_form-requires-clause-controls : goal.write_in_form-requires-clause-controls
-write_in_form-requires-clause-controls g c = c.in-Ok.ensures.controls_are
+write_in_form-requires-clause-controls g c = c.in-Ok.ensures.controls_are ∙ ap (λ (p : PlacedPlanValue). length (controls p.soc)) c.placed.view_is
 
 pub returns-in-Ok-clause-written : goal.returns-in-Ok-clause-written
 returns-in-Ok-clause-written g c =
     subst (λ (t : List ℕ). WritesUnless None t (g.K.Sink.faults c.args.out.now) (g.K.Sink.faults c.write_in_form.new.out) (g.K.Sink.written c.args.out.now) c.write_in_form.result (g.K.Sink.written c.write_in_form.new.out))
-    (stil_program c.in-Ok.form.head.items (soc_value c.args.soc.now) (plan_value c.args.plan.now) c.args.test_data.now c.in-Ok.ensures.head) c.write_in_form.ensures.written
+    (stil_program c.in-Ok.form.head.items c.args.placed.now.soc c.args.placed.now.plan c.args.test_data.now (c.in-Ok.ensures.head ∙ ap (λ (p : PlacedPlanValue). stil_head p.soc.name (wires_of p.plan) (controls p.soc)) c.placed.view_is)) c.write_in_form.ensures.written

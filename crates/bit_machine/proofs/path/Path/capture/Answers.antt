@@ -1,4 +1,4 @@
-use Rattle.std.proofs.Common.{arith, ◌-◌}
+use Rattle.std.proofs.Common.{arith}
 use Rattle.bit_machine.proofs.PathBits.{path_captured}
 use Rattle.bit_machine.proofs.path.Path.capture.Goals as goal
 

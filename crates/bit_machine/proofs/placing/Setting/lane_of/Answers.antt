@@ -1,4 +1,3 @@
-use Rattle.soc_model.specs.Chips.{soc_value}
 use Rattle.bit_machine.proofs.PlacedLanes.{self_placed}
 use Rattle.bit_machine.proofs.placing.Setting.lane_of.Goals as goal
 
@@ -7,5 +6,5 @@ test-placed-requires-clause-test_there g c = (c.args.at, c.requires.test_there)
 
 pub returns-in-None : goal.returns-in-None
 returns-in-None g c =
-    self_placed (soc_value c.args.self.now.chip.soc.now) c.args.self.now.chip.index.now c.args.core.now.place c.args.at c.requires.module_there c.requires.test_there c.requires.live
+    self_placed c.args.self.now.placed.now.soc c.args.self.now.placed.now.plan c.args.core.now.place c.args.at c.requires.module_there c.requires.test_there c.requires.live
     (g.C.Contents.keys c.args.contents.now) c.self_test.result c.test-placed.ensures c.in-None.is c.self_test.ensures

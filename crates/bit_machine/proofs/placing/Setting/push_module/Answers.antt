@@ -13,11 +13,11 @@ push_test-requires-clause-test_there g c = slice_at c.args.module.now.tests.item
 
 pub loop-at-preserved : goal.loop-at-preserved
 loop-at-preserved g c = λ done are.
-    next_test c.args.self.now.chip.index.now c.args.place (module_value c.args.module.now) c.args.module.now.tests.items c.loop-at.at done
+    next_test c.args.self.now.placed.now.plan c.args.place (module_value c.args.module.now) c.args.module.now.tests.items c.loop-at.at done
     (slice_at c.args.module.now.tests.items c.loop-at.at c.index.result.now (omega (arith, c.loop-at-test.true, c.len-at-end.ensures, c.args.module.now.tests.ok.0)) c.index.ensures)
-    (c.in_ok-push_test.ensures (done ++ planned_in c.args.self.now.chip.index.now c.args.place (module_value c.args.module.now) (take c.loop-at.at c.args.module.now.tests.items)) (c.loop-at.invariant done are))
+    (c.in_ok-push_test.ensures (done ++ planned_in c.args.self.now.placed.now.plan c.args.place (module_value c.args.module.now) (take c.loop-at.at c.args.module.now.tests.items)) (c.loop-at.invariant done are))
 
 pub returns : goal.returns
 returns g c = λ done are.
-    all_tests c.args.self.now.chip.index.now c.args.place (module_value c.args.module.now) c.args.module.now.tests.items c.loop-at.at done (omega (arith, c.loop-at-test.false, c.len-at-end.ensures, c.args.module.now.tests.ok.0))
+    all_tests c.args.self.now.placed.now.plan c.args.place (module_value c.args.module.now) c.args.module.now.tests.items c.loop-at.at done (omega (arith, c.loop-at-test.false, c.len-at-end.ensures, c.args.module.now.tests.ok.0))
     (c.loop-at.invariant done are)

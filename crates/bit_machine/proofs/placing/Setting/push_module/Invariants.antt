@@ -1,10 +1,10 @@
 use Rattle.std.proofs.Common.{◌++◌, List, take}
-use Rattle.soc_model.specs.Chips.{soc_value, module_value}
+use Rattle.soc_model.specs.Chips.{module_value}
 use Rattle.plan_model.specs.Plans.{PlannedTest}
 use Rattle.bit_machine.specs.Placed.{planned_in, IsPlacedLane}
 use Rattle.bit_machine.specs.Machines.{AreLanes}
 use Rattle.bit_machine.proofs.placing.Setting.push_module.Given as goal
 
 abbrev pub invariant-loop-at : goal.invariant-loop-at
-invariant-loop-at g l = (done : List PlannedTest) → AreLanes (IsPlacedLane (g.C.Contents.keys l.contents) (soc_value l.self.chip.soc.now) l.self.chip.index.now) done l.initial.lanes.items →
-    AreLanes (IsPlacedLane (g.C.Contents.keys l.contents) (soc_value l.self.chip.soc.now) l.self.chip.index.now) (done ++ planned_in l.self.chip.index.now l.place (module_value l.«module») (take l.at l.«module».tests.items)) l.lanes.items
+invariant-loop-at g l = (done : List PlannedTest) → AreLanes (IsPlacedLane (g.C.Contents.keys l.contents) l.self.placed.now.soc l.self.placed.now.plan) done l.initial.lanes.items →
+    AreLanes (IsPlacedLane (g.C.Contents.keys l.contents) l.self.placed.now.soc l.self.placed.now.plan) (done ++ planned_in l.self.placed.now.plan l.place (module_value l.«module») (take l.at l.«module».tests.items)) l.lanes.items

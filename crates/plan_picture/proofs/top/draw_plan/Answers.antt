@@ -1,0 +1,14 @@
+use Rattle.std.proofs.Common.{map, string_bytes}
+use Rattle.commands.specs.Commands.{command_of}
+use Rattle.plan_picture.proofs.Drawings.{headline, settled}
+use Rattle.commands.proofs.Promised.{verdict_promised}
+use Rattle.plan_picture.proofs.top.draw_plan.Goals as goal
+
+pub returns-clause-answers : goal.returns-clause-answers
+returns-clause-answers g c =
+    verdict_promised c.decide-verdict.result (settled c.files_say_one_thing.ensures (record { say_one = c.proof_texts_are_settled.ensures.say_one; not_refused = c.proof_texts_are_settled.ensures.not_refused; refused_once = c.proof_texts_are_settled.ensures.refused_once; one_fault = c.proofs_have_one_fault.ensures; no_fault = c.accepted_proofs_have_no_fault.ensures }) (command_of (map string_bytes c.args.words.now))) c.decide-verdict.ensures.decides c.decide-verdict.ensures.by_loads c.decide-verdict.ensures.untouched c.write_verdict.ensures.written c.write_verdict.ensures.puts
+
+pub returns-clause-headline : goal.returns-clause-headline
+returns-clause-headline g c =
+    headline (record { right = c.good_plans_run_right.ensures; bound = c.certificates_are_bounds.ensures.accepted }) (record { drawn = c.good_plans_draw_right.ensures.drawn; apart = c.good_plans_draw_right.ensures.apart; lanes = c.good_plans_draw_right.ensures.lanes; within = c.good_plans_draw_right.ensures.within; used = c.good_plans_draw_right.ensures.used; self_drawn = c.good_plans_draw_right.ensures.self_drawn; told_apart = c.good_plans_draw_right.ensures.told_apart; lanes_told_apart = c.good_plans_draw_right.ensures.lanes_told_apart }) c.accepted_proofs_are_bounds.ensures (command_of (map string_bytes c.args.words.now)) (g.H.Shelf.held c.args.shelf.now) (g.H.Shelf.faults c.args.shelf.now) (g.H.Shelf.faults c.decide-verdict.new.shelf) (g.K.Sink.faults c.args.out.now) (g.K.Sink.faults c.write_verdict.new.out) (g.K.Sink.written c.args.out.now) (g.K.Sink.written c.write_verdict.new.out) c.write_verdict.result
+    (returns-clause-answers g c).ends
