@@ -3,7 +3,7 @@
 //! What is printed of a sound chip is read back as that chip. The only error is out of memory.
 #![tactic(auto)]
 
-ghost use Rattle.std.specs.Prelude.{◌≡◌, ◌∷◌, [], ◌++◌, decimal, map, OnOk, IfOk};
+ghost use Rattle.std.specs.Prelude.{◌≡◌, ◌∷◌, [], ◌++◌, codes, decimal, map, OnOk, IfOk};
 ghost use Rattle.std.specs.List.{flat_map};
 ghost use Rattle.soc_model.specs.Chips.{SocValue, soc_value, module_value};
 ghost use Rattle.soc_model.specs.SoundChips.{IsSoundChip};
@@ -159,6 +159,19 @@ fn push_tests_line(text: &mut Vec<u8>, number: u64, tests: usize) -> Result<(), 
     push(text, b'\n')
 }
 
+/// Appends whether a test uses scan chains, and whether it uses wires. Most of a text is lines of tests, so both words go at once.
+fn push_uses(text: &mut Vec<u8>, scan: bool, tam: bool) -> Result<(), NoMemory>
+    ensures { OnOk result (text.new.items ≡ text.old.items
+        ++ (spaced (codes "ScanUse" ∷ flag_word scan ∷ []) ++ spaced (codes "TamUse" ∷ flag_word tam ∷ []))) }
+{
+    match (scan, tam) {
+        (true, true) => extend(text, b" ScanUse 1 TamUse 1"),
+        (true, false) => extend(text, b" ScanUse 1 TamUse 0"),
+        (false, true) => extend(text, b" ScanUse 0 TamUse 1"),
+        (false, false) => extend(text, b" ScanUse 0 TamUse 0"),
+    }
+}
+
 /// Appends the line of a test.
 fn push_test_line(text: &mut Vec<u8>, number: u64, test: &Test) -> Result<(), NoMemory>
     ensures { OnOk result (text.new.items ≡ text.old.items ++ test_line number test.now) }
@@ -166,8 +179,7 @@ fn push_test_line(text: &mut Vec<u8>, number: u64, test: &Test) -> Result<(), No
     extend(text, b"Module")?;
     push_count(text, number)?;
     push_entry(text, b"Test", test.number)?;
-    push_flag(text, b"ScanUse", test.scan)?;
-    push_flag(text, b"TamUse", test.tam)?;
+    push_uses(text, test.scan, test.tam)?;
     push_entry(text, b"Patterns", test.patterns)?;
     push_entry(text, b"Power", test.power)?;
     push(text, b'\n')
