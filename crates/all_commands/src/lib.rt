@@ -42,10 +42,11 @@ pub fn run_command<H: Shelf, K: Sink, T: Sink>(
         × (K.faults out.old ≤ K.faults out.new) × (T.faults progress.old ≤ T.faults progress.new) }
 
     // What every top call promises of its answer.
-    ensures answers { IsTopCall H.is_load K.is_put (fixes_text (command_of (map string_bytes words.now)))
+    ensures answers { IsTopCall H.is_load K.is_put
+        (fixes_text (command_of (map string_bytes words.now)))
         (requested (command_of (map string_bytes words.now))) (H.held shelf.old) shelf.old shelf.new
-        (H.faults shelf.old) (H.faults shelf.new) out.old out.new (K.faults out.old) (K.faults out.new)
-        (K.written out.old) result (K.written out.new) }
+        (H.faults shelf.old) (H.faults shelf.new) out.old out.new (K.faults out.old)
+        (K.faults out.new) (K.written out.old) result (K.written out.new) }
 
     // The words are bad exactly where they are no command of any top call; then no file is loaded.
     ensures by_words { EndsByCommand (command_of (map string_bytes words.now))

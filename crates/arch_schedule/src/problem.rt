@@ -93,7 +93,8 @@ fn times_of(
     test: &Test,
 ) -> Result<TestTimes, NoMemory>
     requires { wires ≤ 256 }
-    ensures { (modules : ℕ) → IfSome stands.number (λ m. m < modules) → IfOk result (IsTimed wires modules) }
+    ensures { (modules : ℕ) → IfSome stands.number (λ m. m < modules) →
+        IfOk result (IsTimed wires modules) }
 {
     let id = TestId {
         module: module.number,
@@ -126,9 +127,11 @@ fn push_test(
     test: &Test,
 ) -> Result<(), NoMemory>
     requires { wires ≤ 256 }
-    ensures timed { (modules : ℕ) → IfSome stands.number (λ m. m < modules) → All (IsTimed wires modules) tests.old.items →
+    ensures timed { (modules : ℕ) → IfSome stands.number (λ m. m < modules) →
+        All (IsTimed wires modules) tests.old.items →
         OnOk result (All (IsTimed wires modules) tests.new.items) }
-    ensures count { OnOk result (length tests.new.items ≡ length tests.old.items + (if is_live test.now then 1 else 0)) }
+    ensures count { OnOk result
+        (length tests.new.items ≡ length tests.old.items + (if is_live test.now then 1 else 0)) }
 {
     if !live(test) {
         return Ok(());
@@ -147,9 +150,11 @@ fn push_tests(
     module: &Module,
 ) -> Result<(), NoMemory>
     requires { wires ≤ 256 }
-    ensures timed { (modules : ℕ) → IfSome stands.number (λ m. m < modules) → All (IsTimed wires modules) tests.old.items →
+    ensures timed { (modules : ℕ) → IfSome stands.number (λ m. m < modules) →
+        All (IsTimed wires modules) tests.old.items →
         OnOk result (All (IsTimed wires modules) tests.new.items) }
-    ensures count { OnOk result (length tests.new.items ≡ length tests.old.items + length (filter is_live «module».now.tests.items)) }
+    ensures count { OnOk result (length tests.new.items
+        ≡ length tests.old.items + length (filter is_live «module».now.tests.items)) }
 {
     for test in &module.tests {
         push_test(alloc, tests, packed, wires, stands, module, test)?;
@@ -183,7 +188,8 @@ impl TimedTests {
         requires some { 1 ≤ wires }
         requires few { wires ≤ WIRES_MOST }
         requires job { IsSoundJob (job_value job.now) }
-        requires tests { length (job_value job.now).tests ≡ length (live_tests (soc_value soc.now)) }
+        requires tests { length (job_value job.now).tests
+            ≡ length (live_tests (soc_value soc.now)) }
         ensures { IfOk result (IsProblem (job_value job.now)) }
     {
         let mut modules = Vec::new(alloc);

@@ -87,7 +87,8 @@ fn key_by_chains(keys: &mut [Keyed], chains: &[u64])
 fn write_places(order: &mut [usize], keys: &[Keyed])
     requires { length keys.now ≡ length order.old }
     ensures long { length order.new ≡ length order.old }
-    ensures places { (n : ℕ) → All (λ (k : Keyed). k.place < n) keys.now → All (λ place. place < n) order.new }
+    ensures places { (n : ℕ) → All (λ (k : Keyed). k.place < n) keys.now →
+        All (λ place. place < n) order.new }
 {
     for place in 0..order.len() {
         order[place] = keys[place].place;

@@ -19,7 +19,8 @@ use resource_table::{OwnTable, TableOf, earlier_than, list_schedules_are_short};
 /// The slot of a test's bus; None for a self test.
 fn slot_for(test: &TestTimes, buses: &Buses) -> Option<usize>
     requires buses { AreBuses buses.now }
-    requires timed { IsTimed (length buses.now.widths.items) (length buses.now.slots.items) test.now }
+    requires timed { IsTimed (length buses.now.widths.items) (length buses.now.slots.items)
+        test.now }
     ensures { IfSome result (λ slot. slot < length buses.now.widths.items) }
 {
     let module = test.module?;
@@ -29,7 +30,8 @@ fn slot_for(test: &TestTimes, buses: &Buses) -> Option<usize>
 /// The cycles of a test over the bus of a slot; of a self test those that it always takes.
 fn cycles_over(test: &TestTimes, buses: &Buses, slot: Option<usize>) -> u64
     requires buses { AreBuses buses.now }
-    requires timed { IsTimed (length buses.now.widths.items) (length buses.now.slots.items) test.now }
+    requires timed { IsTimed (length buses.now.widths.items) (length buses.now.slots.items)
+        test.now }
     requires slot { IfSome slot (λ k. k < length buses.now.widths.items) }
 {
     let Some(slot) = slot else {
@@ -56,7 +58,8 @@ pub fn assign_buses(problem: &TimedTests, buses: &Buses, room: &mut ScheduleRoom
     requires buses { AreBuses buses.now }
     requires wires { length buses.now.widths.items ≡ problem.now.wires }
     requires few_wires { problem.now.wires ≤ 256 }
-    requires timed { All (IsTimed (length buses.now.widths.items) (length buses.now.slots.items)) problem.now.tests.items }
+    requires timed { All (IsTimed (length buses.now.widths.items) (length buses.now.slots.items))
+        problem.now.tests.items }
     requires room { HasRoomFor problem.now room.old }
     ensures room { HasRoomFor problem.now room.new }
     ensures short { result ≡ true → AreShort room.new.cycles.items }
@@ -110,7 +113,8 @@ fn is_next<J>(table: &TableOf<J>, before: &[Neighbours], test: usize) -> bool
     requires in_job { test < length table.now.job.tests }
     requires before { AreListed table.now.job (map listed before.now) }
     ensures new { result ≡ true → is_placed_in table.now.placed test ≡ false }
-    ensures ready { result ≡ true → (earlier : ℕ) → Precedes table.now.job earlier test → is_placed_in table.now.placed earlier ≡ true }
+    ensures ready { result ≡ true → (earlier : ℕ) → Precedes table.now.job earlier test →
+        is_placed_in table.now.placed earlier ≡ true }
 {
     if table.is_placed(test) {
         return false;
@@ -121,7 +125,8 @@ fn is_next<J>(table: &TableOf<J>, before: &[Neighbours], test: usize) -> bool
 /// Places a test at a start, where it fits.
 fn place_at<J>(table: &mut TableOf<J>, test: usize, start: u64)
     requires { MayPlace table.old.job table.old.placed test start }
-    ensures table { table.new ≡ record table.old { placed = table.old.placed ++ at_start test start ∷ [] } }
+    ensures table { table.new
+        ≡ record table.old { placed = table.old.placed ++ at_start test start ∷ [] } }
     ensures sound { IsSoundTable table.new }
 {
     table.place(test, start).keep();

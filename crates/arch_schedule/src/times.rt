@@ -166,7 +166,8 @@ fn columns_of(
     requires rows { All (IsRow problem.now.wires) rows.now }
     requires long { length rows.now ≡ length problem.now.modules.items }
     ensures long { IfOk result (λ columns. length columns.items ≡ problem.now.wires + 1) }
-    ensures columns { IfOk result (λ columns. All (IsColumn (length problem.now.modules.items)) columns.items) }
+    ensures columns { IfOk result
+        (λ columns. All (IsColumn (length problem.now.modules.items)) columns.items) }
 {
     let mut columns = Vec::new(alloc);
     for width in 0..problem.wires + 1 {
@@ -222,7 +223,8 @@ fn rankings_of(
     requires rows { All (IsRow problem.now.wires) rows.now }
     requires long { length rows.now ≡ length problem.now.modules.items }
     ensures long { IfOk result (λ rankings. length rankings.items ≡ problem.now.wires + 1) }
-    ensures rankings { IfOk result (λ rankings. All (IsRanking (length problem.now.modules.items)) rankings.items) }
+    ensures rankings { IfOk result
+        (λ rankings. All (IsRanking (length problem.now.modules.items)) rankings.items) }
 {
     let mut rankings = Vec::new(alloc);
     for width in 0..problem.wires + 1 {

@@ -85,7 +85,8 @@ fn may_advance(before: &[Neighbours], order: &[usize], place: usize, to: usize) 
 /// Lets the test at a place of an order go to an earlier place.
 fn advance_test(order: &mut Vec<usize>, place: usize, to: usize)
     requires within { place < length order.old.items }
-    ensures order { (n : ℕ) → All (λ test. test < n) order.old.items → All (λ test. test < n) order.new.items }
+    ensures order { (n : ℕ) → All (λ test. test < n) order.old.items →
+        All (λ test. test < n) order.new.items }
     ensures long { length order.new.items ≡ length order.old.items }
 {
     let mut carried = order[place];
@@ -113,7 +114,8 @@ fn may_retreat(before: &[Neighbours], order: &[usize], place: usize, to: usize) 
 fn retreat_test(order: &mut Vec<usize>, place: usize, to: usize)
     requires start { place < length order.old.items }
     requires within { to < length order.old.items }
-    ensures order { (n : ℕ) → All (λ test. test < n) order.old.items → All (λ test. test < n) order.new.items }
+    ensures order { (n : ℕ) → All (λ test. test < n) order.old.items →
+        All (λ test. test < n) order.new.items }
     ensures long { length order.new.items ≡ length order.old.items }
 {
     let test = order[place];

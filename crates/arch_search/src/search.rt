@@ -64,7 +64,8 @@ impl<'a> Model for Search<'a> {
 
     ghost view = { λ s. s.best.cycles };
 
-    ghost invariant = { λ s. IsSearch s.setting s.table s.room s.taken.items s.less.items s.best s.current s.next };
+    ghost invariant = { λ s. IsSearch s.setting s.table s.room s.taken.items s.less.items s.best
+        s.current s.next };
 }
 
 /// What a search found: its best state. The schedule is that of the last call of [`Search::schedule_best`].
@@ -86,7 +87,8 @@ pub struct Found<'s> {
 
 /// Room for `count` modules that are dealt again.
 fn taken_room(alloc: Global, count: usize) -> Result<Vec<DealtModule>, NoMemory>
-    ensures { IfOk result (λ taken. taken.items ≡ replicate count (record { «module» = 0; from = 0 })) }
+    ensures { IfOk result
+        (λ taken. taken.items ≡ replicate count (record { «module» = 0; from = 0 })) }
 {
     let none = DealtModule { module: 0, from: 0 };
     Ok(vec![in alloc; none; count]?)
@@ -95,7 +97,8 @@ fn taken_room(alloc: Global, count: usize) -> Result<Vec<DealtModule>, NoMemory>
 /// Room for the modules of a problem that are dealt again.
 fn no_modules(alloc: Global, problem: &TimedTests) -> Result<Vec<DealtModule>, NoMemory>
     requires { (job : JobValue) × IsProblem job problem.now }
-    ensures { IfOk result (λ taken. All (IsTaken problem.now.wires (length problem.now.modules.items)) taken.items) }
+    ensures { IfOk result
+        (λ taken. All (IsTaken problem.now.wires (length problem.now.modules.items)) taken.items) }
 {
     let count = problem.modules.len().min(DEALT_MOST);
     let taken = taken_room(alloc, count)?;

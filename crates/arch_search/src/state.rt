@@ -140,7 +140,8 @@ fn first_order(
     requires sound { IsSoundJob (job_value job.now) }
     requires names { length names.now ≡ length (job_value job.now).tests }
     ensures long { IfOk result (λ order. length order.items ≡ length (job_value job.now).tests) }
-    ensures tests { IfOk result (λ order. All (λ test. test < length (job_value job.now).tests) order.items) }
+    ensures tests { IfOk result
+        (λ order. All (λ test. test < length (job_value job.now).tests) order.items) }
 {
     let listed = listed_places(alloc, names, plan)?;
     if keeps(&job.before, &listed) {
@@ -163,9 +164,11 @@ fn put_on_bus(buses: &mut Buses, module: usize, slot: usize, width: u64, left: u
     requires there { «module» < length buses.old.slots.items }
     requires slot { slot < length buses.old.widths.items }
     requires within { All (λ k. k < length buses.old.widths.items) buses.old.slots.items }
-    requires wires { sum_by (λ (w : ℕ). w) buses.old.widths.items + left ≡ length buses.old.widths.items }
+    requires wires { sum_by (λ (w : ℕ). w) buses.old.widths.items + left
+        ≡ length buses.old.widths.items }
     ensures within { All (λ k. k < length buses.new.widths.items) buses.new.slots.items }
-    ensures wires { sum_by (λ (w : ℕ). w) buses.new.widths.items + result ≡ length buses.new.widths.items }
+    ensures wires { sum_by (λ (w : ℕ). w) buses.new.widths.items + result
+        ≡ length buses.new.widths.items }
     ensures alike { AreAlike buses.old buses.new }
     ensures loads { buses.new.loads ≡ buses.old.loads }
 {
@@ -182,7 +185,8 @@ fn put_on_bus(buses: &mut Buses, module: usize, slot: usize, width: u64, left: u
 /// Gives the wires that are left to the first module's bus.
 fn give_rest(buses: &mut Buses, left: u64)
     requires within { All (λ k. k < length buses.old.widths.items) buses.old.slots.items }
-    requires wires { sum_by (λ (w : ℕ). w) buses.old.widths.items + left ≡ length buses.old.widths.items }
+    requires wires { sum_by (λ (w : ℕ). w) buses.old.widths.items + left
+        ≡ length buses.old.widths.items }
     requires loads { length buses.old.loads.items ≡ length buses.old.widths.items }
     ensures buses { AreBuses buses.new }
     ensures alike { AreAlike buses.old buses.new }

@@ -19,7 +19,8 @@ pub fn merge_buses(
     requires from { from < length (arch_value arch.old) }
     requires into { into < length (arch_value arch.old) }
     requires differ { from ≢ into }
-    ensures value { OnOk result (arch_value arch.new ≡ merged table.now (arch_value arch.old) from into) }
+    ensures value { OnOk result
+        (arch_value arch.new ≡ merged table.now (arch_value arch.old) from into) }
     ensures sound { OnOk result (IsSoundArch table.now (arch_value arch.new)) }
 {
     let smaller = join_buses(arch, from, into)?;
@@ -34,7 +35,8 @@ fn join_buses(arch: &mut Arch, from: usize, into: usize) -> Result<u64, NoMemory
     requires into { into < length (arch_value arch.old) }
     requires differ { from ≢ into }
     ensures value { OnOk result (arch_value arch.new ≡ joined_at (arch_value arch.old) from into) }
-    ensures smaller { IfOk result (λ n. n ≡ min (bus_at (arch_value arch.old) from).width (bus_at (arch_value arch.old) into).width) }
+    ensures smaller { IfOk result (λ n. n
+        ≡ min (bus_at (arch_value arch.old) from).width (bus_at (arch_value arch.old) into).width) }
 {
     let gone = arch.buses.remove(from);
     let at = if into < from { into } else { into - 1 };

@@ -65,7 +65,8 @@ fn greatest_besides(times: &[u64], one: usize, two: usize) -> u64
 /// The times of the buses.
 fn bus_times(alloc: Global, table: &WidthTable, arch: &Arch) -> Result<Vec<u64>, NoMemory>
     requires { IsSoundArch table.now (arch_value arch.now) }
-    ensures { IfOk result (λ times. times.items ≡ map (bus_time_of table.now) (arch_value arch.now)) }
+    ensures { IfOk result
+        (λ times. times.items ≡ map (bus_time_of table.now) (arch_value arch.now)) }
 {
     let mut times = Vec::new(alloc);
     for bus in &arch.buses {
@@ -84,7 +85,8 @@ fn times_by_width(
     requires listed { (p : ℕ) → times_listed p places.now ≤ due table.now p }
     requires width { width ≤ table.now.wires }
     ensures count { IfOk result (λ row. length row.items ≡ width) }
-    ensures times { IfOk result (λ row. (i : ℕ) → i < width → slice_index row.items i ≡ places_time table.now (i + 1) places.now) }
+    ensures times { IfOk result (λ row. (i : ℕ) → i < width →
+        slice_index row.items i ≡ places_time table.now (i + 1) places.now) }
 {
     let mut row = Vec::new(alloc);
     for less in 0..width {
@@ -190,7 +192,8 @@ pub(crate) fn cost_alone(
     requires nth { nth < length (bus_at (arch_value arch.now) weights.now.bus).places }
     requires some { 1 ≤ width }
     requires width { width < (bus_at (arch_value arch.now) weights.now.bus).width }
-    ensures { result ≡ cost_of table.now (split_off (arch_value arch.now) weights.now.bus nth width) }
+    ensures { result
+        ≡ cost_of table.now (split_off (arch_value arch.now) weights.now.bus nth width) }
 {
     // the call tells what every table keeps
     let _wires = table.wires();
@@ -232,7 +235,8 @@ fn with_buses(
         (flat_map (moves (arch_value arch.now) weights.now.bus) (range_with_len 0 nth)) best }
     ensures { IsBestMove table.now (arch_value arch.now) weights.now.bus
         (flat_map (moves (arch_value arch.now) weights.now.bus) (range_with_len 0 nth)
-        ++ map (moved (arch_value arch.now) weights.now.bus nth) (others (length (arch_value arch.now)) weights.now.bus)) result }
+        ++ map (moved (arch_value arch.now) weights.now.bus nth)
+        (others (length (arch_value arch.now)) weights.now.bus)) result }
 {
     let mut best = best;
     for bus in 0..arch.buses.len() {
@@ -258,9 +262,11 @@ fn with_widths(
     requires nth { nth < length (bus_at (arch_value arch.now) weights.now.bus).places }
     requires best { IsBestMove table.now (arch_value arch.now) weights.now.bus
         (flat_map (moves (arch_value arch.now) weights.now.bus) (range_with_len 0 nth)
-        ++ map (moved (arch_value arch.now) weights.now.bus nth) (others (length (arch_value arch.now)) weights.now.bus)) best }
+        ++ map (moved (arch_value arch.now) weights.now.bus nth)
+        (others (length (arch_value arch.now)) weights.now.bus)) best }
     ensures { IsBestMove table.now (arch_value arch.now) weights.now.bus
-        (flat_map (moves (arch_value arch.now) weights.now.bus) (range_with_len 0 (nth + 1))) result }
+        (flat_map (moves (arch_value arch.now) weights.now.bus) (range_with_len 0 (nth + 1)))
+        result }
 {
     let mut best = best;
     for width in 1..width_of(arch, weights.bus) {
@@ -279,8 +285,10 @@ pub(crate) fn best_move(
 ) -> Result<Option<Move>, NoMemory>
     requires sound { IsSoundArch table.now (arch_value arch.now) }
     requires bus { bus < length (arch_value arch.now) }
-    ensures { IfOk result (λ choice. MatchOption choice (IsAtRest table.now (all_moves (arch_value arch.now) bus) (arch_value arch.now))
-        (λ move. IsMoveFrom (arch_value arch.now) bus move × IsStep table.now (all_moves (arch_value arch.now) bus) (arch_value arch.now)
+    ensures { IfOk result (λ choice. MatchOption choice
+        (IsAtRest table.now (all_moves (arch_value arch.now) bus) (arch_value arch.now))
+        (λ move. IsMoveFrom (arch_value arch.now) bus move
+        × IsStep table.now (all_moves (arch_value arch.now) bus) (arch_value arch.now)
         (moved_by (arch_value arch.now) bus move))) }
 {
     let weights = weights_of(alloc, table, arch, bus)?;

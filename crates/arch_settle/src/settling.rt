@@ -15,8 +15,9 @@ use width_table::WidthTable;
 /// The reshuffle step, where it costs less. Tells whether it was taken.
 fn step_shuffle(alloc: Global, table: &WidthTable, arch: &mut Arch) -> Result<bool, NoMemory>
     requires sound { IsSoundArch table.now (arch_value arch.old) }
-    ensures taken { IfOk result (λ taken. IsTaken table.now (reshuffle_of table.now (arch_value arch.old)) (arch_value arch.old)
-        (arch_value arch.new) taken) }
+    ensures taken { IfOk result
+        (λ taken. IsTaken table.now (reshuffle_of table.now (arch_value arch.old))
+        (arch_value arch.old) (arch_value arch.new) taken) }
     ensures sound { OnOk result (IsSoundArch table.now (arch_value arch.new)) }
 {
     let Some(bus) = bottleneck(table, arch) else {
@@ -39,8 +40,10 @@ fn step_shuffle(alloc: Global, table: &WidthTable, arch: &mut Arch) -> Result<bo
 /// no less.
 pub fn reshuffle(alloc: Global, table: &WidthTable, arch: Arch) -> Result<Arch, NoMemory>
     requires { IsSoundArch table.now (arch_value arch) }
-    ensures rests { IfOk result (λ rested. Rests table.now (reshuffle_of table.now) (arch_value arch) (arch_value rested)) }
-    ensures only { IfOk result (λ rested. (other : List BusValue) → Rests table.now (reshuffle_of table.now) (arch_value arch) other →
+    ensures rests { IfOk result
+        (λ rested. Rests table.now (reshuffle_of table.now) (arch_value arch) (arch_value rested)) }
+    ensures only { IfOk result (λ rested. (other : List BusValue) →
+        Rests table.now (reshuffle_of table.now) (arch_value arch) other →
         other ≡ arch_value rested) }
     ensures sound { IfOk result (λ rested. IsSoundArch table.now (arch_value rested)) }
 {
@@ -64,11 +67,13 @@ fn settle_round(alloc: Global, table: &WidthTable, arch: Arch) -> Result<Arch, N
 /// of the three kinds costs less. It costs at most what was given.
 pub fn settle(alloc: Global, table: &WidthTable, arch: Arch) -> Result<Arch, NoMemory>
     requires { IsSoundArch table.now (arch_value arch) }
-    ensures settles { IfOk result (λ settled. Settles table.now (arch_value arch) (arch_value settled)) }
-    ensures only { IfOk result (λ settled. (other : List BusValue) → Settles table.now (arch_value arch) other →
-        other ≡ arch_value settled) }
+    ensures settles { IfOk result
+        (λ settled. Settles table.now (arch_value arch) (arch_value settled)) }
+    ensures only { IfOk result (λ settled. (other : List BusValue) →
+        Settles table.now (arch_value arch) other → other ≡ arch_value settled) }
     ensures settled { IfOk result (λ settled. IsSettled table.now (arch_value settled)) }
-    ensures cost { IfOk result (λ settled. cost_of table.now (arch_value settled) ≤ cost_of table.now (arch_value arch)) }
+    ensures cost { IfOk result
+        (λ settled. cost_of table.now (arch_value settled) ≤ cost_of table.now (arch_value arch)) }
     ensures sound { IfOk result (λ settled. IsSoundArch table.now (arch_value settled)) }
 {
     // a round that leaves the cost takes no step, and so changes nothing

@@ -21,8 +21,9 @@ pub(crate) fn best_merge(
 ) -> Result<Option<usize>, NoMemory>
     requires sound { IsSoundArch table.now (arch_value arch.now) }
     requires from { from < length (arch_value arch.now) }
-    ensures { IfOk result (λ choice. MatchOption choice (IsAtRest table.now (merges table.now from (arch_value arch.now))
-        (arch_value arch.now)) (λ into. ((into < length (arch_value arch.now)) × (from ≢ into))
+    ensures { IfOk result (λ choice. MatchOption choice
+        (IsAtRest table.now (merges table.now from (arch_value arch.now)) (arch_value arch.now))
+        (λ into. ((into < length (arch_value arch.now)) × (from ≢ into))
         × IsStep table.now (merges table.now from (arch_value arch.now)) (arch_value arch.now)
         (merged table.now (arch_value arch.now) from into))) }
 {
@@ -52,8 +53,9 @@ fn merge_best(
 ) -> Result<bool, NoMemory>
     requires sound { IsSoundArch table.now (arch_value arch.old) }
     requires from { from < length (arch_value arch.old) }
-    ensures taken { IfOk result (λ taken. IsTaken table.now (merges table.now from (arch_value arch.old)) (arch_value arch.old)
-        (arch_value arch.new) taken) }
+    ensures taken { IfOk result
+        (λ taken. IsTaken table.now (merges table.now from (arch_value arch.old))
+        (arch_value arch.old) (arch_value arch.new) taken) }
     ensures sound { OnOk result (IsSoundArch table.now (arch_value arch.new)) }
 {
     match best_merge(alloc, table, arch, from)? {
@@ -68,8 +70,9 @@ fn merge_best(
 /// The bottom-up step, where it costs less. Tells whether it was taken.
 fn step_up(alloc: Global, table: &WidthTable, arch: &mut Arch) -> Result<bool, NoMemory>
     requires sound { IsSoundArch table.now (arch_value arch.old) }
-    ensures taken { IfOk result (λ taken. IsTaken table.now (bottom_up_of table.now (arch_value arch.old)) (arch_value arch.old)
-        (arch_value arch.new) taken) }
+    ensures taken { IfOk result
+        (λ taken. IsTaken table.now (bottom_up_of table.now (arch_value arch.old))
+        (arch_value arch.old) (arch_value arch.new) taken) }
     ensures sound { OnOk result (IsSoundArch table.now (arch_value arch.new)) }
 {
     if arch.buses.is_empty() {
@@ -82,8 +85,9 @@ fn step_up(alloc: Global, table: &WidthTable, arch: &mut Arch) -> Result<bool, N
 /// The top-down step, where it costs less. Tells whether it was taken.
 fn step_down(alloc: Global, table: &WidthTable, arch: &mut Arch) -> Result<bool, NoMemory>
     requires sound { IsSoundArch table.now (arch_value arch.old) }
-    ensures taken { IfOk result (λ taken. IsTaken table.now (top_down_of table.now (arch_value arch.old)) (arch_value arch.old)
-        (arch_value arch.new) taken) }
+    ensures taken { IfOk result
+        (λ taken. IsTaken table.now (top_down_of table.now (arch_value arch.old))
+        (arch_value arch.old) (arch_value arch.new) taken) }
     ensures sound { OnOk result (IsSoundArch table.now (arch_value arch.new)) }
 {
     match bottleneck(table, arch) {
@@ -96,8 +100,10 @@ fn step_down(alloc: Global, table: &WidthTable, arch: &mut Arch) -> Result<bool,
 /// again until that would cost no less (bottom-up optimisation).
 pub fn bottom_up(alloc: Global, table: &WidthTable, arch: Arch) -> Result<Arch, NoMemory>
     requires { IsSoundArch table.now (arch_value arch) }
-    ensures rests { IfOk result (λ rested. Rests table.now (bottom_up_of table.now) (arch_value arch) (arch_value rested)) }
-    ensures only { IfOk result (λ rested. (other : List BusValue) → Rests table.now (bottom_up_of table.now) (arch_value arch) other →
+    ensures rests { IfOk result
+        (λ rested. Rests table.now (bottom_up_of table.now) (arch_value arch) (arch_value rested)) }
+    ensures only { IfOk result (λ rested. (other : List BusValue) →
+        Rests table.now (bottom_up_of table.now) (arch_value arch) other →
         other ≡ arch_value rested) }
     ensures sound { IfOk result (λ rested. IsSoundArch table.now (arch_value rested)) }
 {
@@ -110,8 +116,10 @@ pub fn bottom_up(alloc: Global, table: &WidthTable, arch: Arch) -> Result<Arch, 
 /// that would cost no less (top-down optimisation).
 pub fn top_down(alloc: Global, table: &WidthTable, arch: Arch) -> Result<Arch, NoMemory>
     requires { IsSoundArch table.now (arch_value arch) }
-    ensures rests { IfOk result (λ rested. Rests table.now (top_down_of table.now) (arch_value arch) (arch_value rested)) }
-    ensures only { IfOk result (λ rested. (other : List BusValue) → Rests table.now (top_down_of table.now) (arch_value arch) other →
+    ensures rests { IfOk result
+        (λ rested. Rests table.now (top_down_of table.now) (arch_value arch) (arch_value rested)) }
+    ensures only { IfOk result (λ rested. (other : List BusValue) →
+        Rests table.now (top_down_of table.now) (arch_value arch) other →
         other ≡ arch_value rested) }
     ensures sound { IfOk result (λ rested. IsSoundArch table.now (arch_value rested)) }
 {

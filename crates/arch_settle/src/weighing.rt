@@ -72,7 +72,8 @@ fn held_time(
     requires held { IsHeldIn (arch_value arch.now) held }
     requires some { 1 ≤ width }
     requires width { width ≤ table.now.wires }
-    ensures { result ≡ places_time table.now width (held_places (arch_value arch.now) from into held) }
+    ensures { result
+        ≡ places_time table.now width (held_places (arch_value arch.now) from into held) }
 {
     match held {
         BusModules::One(bus) => time_on(table, arch, bus, width),
@@ -93,13 +94,16 @@ fn widen_slowest(
     requires into { into < length (arch_value arch.now) }
     requires loads { AreLoads table.now (arch_value arch.now) from into loads.old.items }
     requires some { 0 < vec_len loads.old }
-    requires fits { IsSoundArch table.now (loads_value (arch_value arch.now) from into loads.old.items) }
-    requires free { wires_used (loads_value (arch_value arch.now) from into loads.old.items) + 1 ≤ table.now.wires }
+    requires fits { IsSoundArch table.now
+        (loads_value (arch_value arch.now) from into loads.old.items) }
+    requires free { wires_used (loads_value (arch_value arch.now) from into loads.old.items) + 1
+        ≤ table.now.wires }
     ensures value { loads_value (arch_value arch.now) from into loads.new.items
         ≡ spread_of table.now 1 (loads_value (arch_value arch.now) from into loads.old.items) }
     ensures loads { AreLoads table.now (arch_value arch.now) from into loads.new.items }
     ensures count { vec_len loads.new ≡ vec_len loads.old }
-    ensures sound { IsSoundArch table.now (loads_value (arch_value arch.now) from into loads.new.items) }
+    ensures sound { IsSoundArch table.now
+        (loads_value (arch_value arch.now) from into loads.new.items) }
     ensures used { wires_used (loads_value (arch_value arch.now) from into loads.new.items)
         ≡ wires_used (loads_value (arch_value arch.now) from into loads.old.items) + 1 }
 {
@@ -130,9 +134,13 @@ fn spread_cost(
     requires into { into < length (arch_value arch.now) }
     requires loads { AreLoads table.now (arch_value arch.now) from into loads.old.items }
     requires some { 0 < vec_len loads.old }
-    requires fits { IsSoundArch table.now (loads_value (arch_value arch.now) from into loads.old.items) }
-    requires free { wires_used (loads_value (arch_value arch.now) from into loads.old.items) + wires ≤ table.now.wires }
-    ensures { result ≡ cost_of table.now (spread_of table.now wires (loads_value (arch_value arch.now) from into loads.old.items)) }
+    requires fits { IsSoundArch table.now
+        (loads_value (arch_value arch.now) from into loads.old.items) }
+    requires free { wires_used (loads_value (arch_value arch.now) from into loads.old.items) + wires
+        ≤ table.now.wires }
+    ensures { result
+        ≡ cost_of table.now (spread_of table.now wires
+        (loads_value (arch_value arch.now) from into loads.old.items)) }
 {
     for _given in 0..wires {
         widen_slowest(table, arch, from, into, loads);
@@ -148,8 +156,10 @@ pub(crate) fn loads_of(
     arch: &Arch,
 ) -> Result<Vec<WeighedBus>, NoMemory>
     requires sound { IsSoundArch table.now (arch_value arch.now) }
-    ensures value { IfOk result (λ loads. (from into : ℕ) → loads_value (arch_value arch.now) from into loads.items ≡ arch_value arch.now) }
-    ensures loads { IfOk result (λ loads. (from into : ℕ) → AreLoads table.now (arch_value arch.now) from into loads.items) }
+    ensures value { IfOk result (λ loads. (from into : ℕ) →
+        loads_value (arch_value arch.now) from into loads.items ≡ arch_value arch.now) }
+    ensures loads { IfOk result (λ loads. (from into : ℕ) →
+        AreLoads table.now (arch_value arch.now) from into loads.items) }
 {
     let mut loads = Vec::new(alloc);
     for (at, bus) in arch.buses.iter().enumerate() {
@@ -179,7 +189,8 @@ pub(crate) fn merged_cost(
     requires differ { from ≢ into }
     requires value { loads_value (arch_value arch.now) from into loads.now ≡ arch_value arch.now }
     requires loads { AreLoads table.now (arch_value arch.now) from into loads.now }
-    ensures { IfOk result (λ n. n ≡ cost_of table.now (merged table.now (arch_value arch.now) from into)) }
+    ensures { IfOk result
+        (λ n. n ≡ cost_of table.now (merged table.now (arch_value arch.now) from into)) }
 {
     let own = arch.buses[into].width;
     let further = arch.buses[from].width;

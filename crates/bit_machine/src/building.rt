@@ -19,7 +19,8 @@ fn push_numbers(runs: &mut Vec<NumberRun>, from: u64, count: u64) -> Result<(), 
     requires full { All IsFull runs.old.items }
     requires fits { from + count < 2 ^ 64 }
     ensures full { OnOk result (All IsFull runs.new.items) }
-    ensures numbers { OnOk result (all_numbers runs.new.items ≡ all_numbers runs.old.items ++ range_with_len from count) }
+    ensures numbers { OnOk result
+        (all_numbers runs.new.items ≡ all_numbers runs.old.items ++ range_with_len from count) }
 {
     if count == 0 {
         return Ok(());
@@ -60,7 +61,8 @@ fn push_scans(
     requires fits { base + sum layout.now.lengths.items < 2 ^ 63 }
     ensures full { OnOk result (All IsFull runs.new.items) }
     ensures numbers { OnOk result (all_numbers runs.new.items
-        ≡ all_numbers runs.old.items ++ flat_map (flop_numbers base layout.now.lengths.items) scans.now) }
+        ≡ all_numbers runs.old.items
+        ++ flat_map (flop_numbers base layout.now.lengths.items) scans.now) }
 {
     for scan in scans {
         push_flops(runs, base, layout, *scan)?;
@@ -103,7 +105,8 @@ fn answers_of(
     requires long { chain_length layout.now.lengths.items chain.now ≤ 10 ^ 18 }
     requires fits { sum layout.now.lengths.items < 2 ^ 63 }
     requires outs { outs_from + chain.now.outs < 2 ^ 63 }
-    ensures { IfOk result (λ answers. answers ≡ flat_map (flop_numbers 0 layout.now.lengths.items) chain.now.scans.items
+    ensures { IfOk result (λ answers. answers
+        ≡ flat_map (flop_numbers 0 layout.now.lengths.items) chain.now.scans.items
         ++ range_with_len outs_from chain.now.outs) }
 {
     let mut answers = Vec::new(alloc);
@@ -128,7 +131,8 @@ fn path_of(
     requires ins { ins_from + chain.now.ins < 2 ^ 63 }
     requires outs { outs_from + chain.now.outs < 2 ^ 63 }
     ensures { (o : ℕ) → outs_from ≡ sum layout.now.lengths.items + o →
-        IfOk result (IsPath inputs layout.now.lengths.items (chain_of layout.now.lengths.items ins_from o (chain_value chain.now))) }
+        IfOk result (IsPath inputs layout.now.lengths.items
+        (chain_of layout.now.lengths.items ins_from o (chain_value chain.now))) }
 {
     let loads = loads_of(alloc, inputs, layout, chain, ins_from)?;
     let answers = answers_of(alloc, layout, chain, outs_from)?;
@@ -146,8 +150,8 @@ pub fn paths_of(alloc: Global, inputs: u64, layout: &Layout) -> Result<Vec<Path>
     requires fits { inputs + sum layout.now.lengths.items < 2 ^ 62 }
     requires ins { sum_by (λ c. c.ins) layout.now.chains.items < 2 ^ 62 }
     requires outs { sum_by (λ c. c.outs) layout.now.chains.items < 2 ^ 62 }
-    ensures { IfOk result (λ paths. ArePaths inputs layout.now.lengths.items (layout_cells layout.now)
-        (length layout.now.chains.items) paths.items) }
+    ensures { IfOk result (λ paths. ArePaths inputs layout.now.lengths.items
+        (layout_cells layout.now) (length layout.now.chains.items) paths.items) }
 {
     let mut ins_from = 0;
     let mut outs_from = layout.flops as u64;

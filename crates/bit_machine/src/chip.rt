@@ -65,7 +65,8 @@ impl<'a> Model for Chip<'a> {
       right_loads = c.right_loads;
     } };
 
-    ghost invariant = { λ c. IsChip (soc_value c.soc.now) (plan_value c.plan.now) c.seed c.machine c.captures c.right_loads };
+    ghost invariant = { λ c. IsChip (soc_value c.soc.now) (plan_value c.plan.now) c.seed c.machine
+        c.captures c.right_loads };
 }
 
 /// Wires that belong to no test.
@@ -77,7 +78,8 @@ fn nobody(alloc: Global, wires: usize) -> Result<Vec<Option<usize>>, NoMemory>
 
 /// The live tests of a placed plan, by the made contents of a seed.
 fn made_lanes(alloc: Global, placed: &PlacedPlan<'_>, seed: u64) -> Result<Vec<Lane>, NoMemory>
-    ensures { IfOk result (λ lanes. AreLanes (IsPlacedLane (made_keys seed) placed.now.soc placed.now.plan)
+    ensures { IfOk result
+        (λ lanes. AreLanes (IsPlacedLane (made_keys seed) placed.now.soc placed.now.plan)
         (planned placed.now.soc placed.now.plan) lanes.items) }
 {
     let firsts = first_wires(alloc, plan_of(placed))?;
@@ -97,7 +99,8 @@ fn lanes_by(
     requires good { IsGoodAlone (soc_value soc.now) (plan_value plan.now) }
     requires names { names.now ≡ live_ids (soc_value soc.now) }
     requires places { IsPlaced (soc_value soc.now) (plan_value plan.now) places.now }
-    ensures { IfOk result (λ lanes. AreLanes (IsPlacedLane (made_keys seed) (soc_value soc.now) (plan_value plan.now))
+    ensures { IfOk result
+        (λ lanes. AreLanes (IsPlacedLane (made_keys seed) (soc_value soc.now) (plan_value plan.now))
         (planned (soc_value soc.now) (plan_value plan.now)) lanes.items) }
 {
     let placed = PlacedPlan::new(soc, plan, names, places);
@@ -108,7 +111,8 @@ fn lanes_by(
 fn lanes_of(alloc: Global, soc: &Soc, plan: &Plan, seed: u64) -> Result<Vec<Lane>, NoMemory>
     requires sound { IsSoundChip (soc_value soc.now) }
     requires good { IsGoodAlone (soc_value soc.now) (plan_value plan.now) }
-    ensures { IfOk result (λ lanes. AreLanes (IsPlacedLane (made_keys seed) (soc_value soc.now) (plan_value plan.now))
+    ensures { IfOk result
+        (λ lanes. AreLanes (IsPlacedLane (made_keys seed) (soc_value soc.now) (plan_value plan.now))
         (planned (soc_value soc.now) (plan_value plan.now)) lanes.items) }
 {
     let names = LiveTests::new(alloc, soc)?;
@@ -125,7 +129,8 @@ impl<'a> Chip<'a> {
     pub fn new(alloc: Global, soc: &'a Soc, plan: &'a Plan, seed: u64) -> Result<Chip<'a>, NoMemory>
         requires sound { IsSoundChip (soc_value soc.now) }
         requires good { IsGoodAlone (soc_value soc.now) (plan_value plan.now) }
-        ensures { IfOk result (λ chip. chip ≡ at_first (soc_value soc.now) (plan_value plan.now) seed) }
+        ensures { IfOk result
+            (λ chip. chip ≡ at_first (soc_value soc.now) (plan_value plan.now) seed) }
     {
         let lanes = lanes_of(alloc, soc, plan, seed)?;
         Chip::with_lanes(alloc, soc, plan, seed, lanes)
@@ -150,9 +155,11 @@ impl<'a> Chip<'a> {
     ) -> Result<Chip<'a>, NoMemory>
         requires sound { IsSoundChip (soc_value soc.now) }
         requires good { IsGoodAlone (soc_value soc.now) (plan_value plan.now) }
-        requires lanes { AreLanes (IsPlacedLane (made_keys seed) (soc_value soc.now) (plan_value plan.now))
+        requires lanes { AreLanes
+            (IsPlacedLane (made_keys seed) (soc_value soc.now) (plan_value plan.now))
             (planned (soc_value soc.now) (plan_value plan.now)) lanes.items }
-        ensures { IfOk result (λ chip. chip ≡ at_first (soc_value soc.now) (plan_value plan.now) seed) }
+        ensures { IfOk result
+            (λ chip. chip ≡ at_first (soc_value soc.now) (plan_value plan.now) seed) }
     {
         let firsts = first_wires(alloc, plan)?;
         let wires = firsts[plan.buses.len()] as usize;
@@ -181,8 +188,10 @@ impl<'a> Chip<'a> {
     pub fn compared(&self, care: &mut [bool])
         requires { length care.old ≡ wires_of self.now.plan }
         ensures long { length care.new ≡ wires_of self.now.plan }
-        ensures read { (w : ℕ) → IsCompared (chip_tests self.now) self.now.cycle w → slice_get care.new w ≡ Some true }
-        ensures only { (w : ℕ) → slice_get care.new w ≡ Some true → IsCompared (chip_tests self.now) self.now.cycle w }
+        ensures read { (w : ℕ) → IsCompared (chip_tests self.now) self.now.cycle w →
+            slice_get care.new w ≡ Some true }
+        ensures only { (w : ℕ) → slice_get care.new w ≡ Some true →
+            IsCompared (chip_tests self.now) self.now.cycle w }
     {
         self.machine.compare(care);
     }
@@ -199,9 +208,12 @@ impl<'a> Chip<'a> {
         ensures cycle { self.new.cycle ≡ self.old.cycle + 1 }
         ensures state { self.new.state ≡ step (chip_content self.old) (chip_tests self.old)
             (λ w. slice_index_or drive.now w false) self.old.cycle self.old.state }
-        ensures captures { self.new.captures ≡ self.old.captures + captures_at (chip_tests self.old) self.old.cycle }
-        ensures right_loads { self.new.right_loads ≡ self.old.right_loads + right_loads_at (chip_content self.old)
-            (chip_tests self.old) self.old.cycle self.old.state }
+        ensures captures { self.new.captures
+            ≡ self.old.captures + captures_at (chip_tests self.old) self.old.cycle }
+        ensures right_loads { self.new.right_loads
+            ≡ self.old.right_loads
+            + right_loads_at (chip_content self.old) (chip_tests self.old) self.old.cycle
+            self.old.state }
         ensures read { read.new ≡ shown_bits self.old }
     {
         let _cycles = cycles_of(self.plan);

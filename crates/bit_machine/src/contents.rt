@@ -22,7 +22,8 @@ pub trait PatternBits: Copy {
     fn next(&self, value: u64) -> u64
         requires sound { is_sound self.now }
         requires value { IsValue (value_of self.now) value }
-        ensures { (n : ℕ) → value ≡ value_of self.now n → n + 1 < 2 ^ 64 → result ≡ value_of self.now (n + 1) };
+        ensures { (n : ℕ) → value ≡ value_of self.now n → n + 1 < 2 ^ 64 →
+            result ≡ value_of self.now (n + 1) };
 
     /// The byte of a number, from its value.
     fn byte(&self, value: u64) -> u8
@@ -51,7 +52,8 @@ pub trait Contents {
     fn stimulus(&self, key: u64, pattern: u64) -> Self::Bits
         requires { IsKey (keys self.now) key }
         ensures sound { Self.Bits.is_sound result }
-        ensures bits { (n : ℕ) → Self.Bits.byte_of result n ≡ digit (drive self.now key pattern n) };
+        ensures bits { (n : ℕ) →
+            Self.Bits.byte_of result n ≡ digit (drive self.now key pattern n) };
 
     /// The bytes that stand where the response of a pattern is read.
     fn response(&self, key: u64, pattern: u64) -> Self::Bits

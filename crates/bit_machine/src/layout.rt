@@ -31,7 +31,8 @@ pub struct Layout {
 
 /// The lengths of the scan chains that a mode of a module has: none over the terminals alone.
 fn lengths_of(alloc: Global, module: &Module, scan: bool) -> Result<Vec<u64>, NoMemory>
-    ensures { IfOk result (λ lengths. lengths.items ≡ scan_lengths (module_value «module».now) scan) }
+    ensures { IfOk result
+        (λ lengths. lengths.items ≡ scan_lengths (module_value «module».now) scan) }
 {
     copied(alloc, mode_chains(module, scan))
 }
@@ -104,11 +105,14 @@ fn part(bits: &[bool], from: usize, count: usize) -> &[bool]
 impl Layout {
     /// The layout of a module in a proper wrapper.
     pub fn new(alloc: Global, module: &Module, wrapper: &Wrapper) -> Result<Layout, NoMemory>
-        requires proper { IsProper (module_value «module».now) wrapper.now.scan (map chain_value wrapper.now.chains.items) }
+        requires proper { IsProper (module_value «module».now) wrapper.now.scan
+            (map chain_value wrapper.now.chains.items) }
         requires small { module_size (module_value «module».now) ≤ 10 ^ 18 }
         ensures layout { IfOk result IsLayout }
-        ensures lengths { IfOk result (λ layout. layout.lengths.items ≡ scan_lengths (module_value «module».now) wrapper.now.scan) }
-        ensures chains { IfOk result (λ layout. map chain_value layout.chains.items ≡ map chain_value wrapper.now.chains.items) }
+        ensures lengths { IfOk result (λ layout. layout.lengths.items
+            ≡ scan_lengths (module_value «module».now) wrapper.now.scan) }
+        ensures chains { IfOk result (λ layout. map chain_value layout.chains.items
+            ≡ map chain_value wrapper.now.chains.items) }
     {
         let lengths = lengths_of(alloc, module, wrapper.scan)?;
         let (starts, flops) = starts_of(alloc, &lengths)?;
@@ -171,8 +175,11 @@ impl Layout {
     pub fn capture(&self, response: &[bool], bits: &mut [Ring])
         requires layout { IsLayout self.now }
         requires long { IsLong self.now bits.old }
-        requires answered { length response.now ≡ sum self.now.lengths.items + sum_by (λ c. c.outs) self.now.chains.items }
-        ensures { bits.new ≡ each_with (captured (response_bit self.now.lengths.items response.now)) (layout_cells self.now) bits.old }
+        requires answered { length response.now
+            ≡ sum self.now.lengths.items + sum_by (λ c. c.outs) self.now.chains.items }
+        ensures { bits.new
+            ≡ each_with (captured (response_bit self.now.lengths.items response.now))
+            (layout_cells self.now) bits.old }
     {
         let mut outs_from = self.flops;
         for place in 0..bits.len() {

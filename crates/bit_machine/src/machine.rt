@@ -42,7 +42,8 @@ fn give_wires(users: &mut [Option<usize>], lane: &Lane, place: usize)
     ensures long { length users.new ≡ length users.old }
     ensures given { (w : ℕ) → lane.now.first_wire ≤ w → w < lane.now.first_wire + lane.now.width →
         slice_get users.new w ≡ Some (Some place) }
-    ensures others { (w : ℕ) → (w < lane.now.first_wire) ⊎ (lane.now.first_wire + lane.now.width ≤ w) →
+    ensures others { (w : ℕ) →
+        (w < lane.now.first_wire) ⊎ (lane.now.first_wire + lane.now.width ≤ w) →
         slice_get users.new w ≡ slice_get users.old w }
 {
     for wire in lane.first_wire..lane.first_wire + lane.width {
@@ -82,7 +83,8 @@ fn sooner(lane: &Lane, cycle: u64, change: u64) -> u64
 
 /// The next cycle after this one at which a test begins or has ended.
 fn next_change(lanes: &[SteppedLane], cycle: u64) -> u64
-    ensures { (i : ℕ) (l : SteppedLane) → slice_get lanes.now i ≡ Some l → IsLaneUnchanged cycle result l.lane }
+    ensures { (i : ℕ) (l : SteppedLane) → slice_get lanes.now i ≡ Some l →
+        IsLaneUnchanged cycle result l.lane }
 {
     let mut change = u64::MAX;
     for stepped in lanes {
@@ -95,9 +97,10 @@ fn next_change(lanes: &[SteppedLane], cycle: u64) -> u64
 fn give_active(users: &mut [Option<usize>], lane: &Lane, place: usize, cycle: u64)
     requires { lane.now.tam ≡ true → lane.now.first_wire + lane.now.width ≤ length users.old }
     ensures long { length users.new ≡ length users.old }
-    ensures given { lane_on lane.now cycle ≡ true → (w : ℕ) → lane.now.first_wire ≤ w → w < lane.now.first_wire + lane.now.width →
-        slice_get users.new w ≡ Some (Some place) }
-    ensures others { lane_on lane.now cycle ≡ true → (w : ℕ) → (w < lane.now.first_wire) ⊎ (lane.now.first_wire + lane.now.width ≤ w) →
+    ensures given { lane_on lane.now cycle ≡ true → (w : ℕ) → lane.now.first_wire ≤ w →
+        w < lane.now.first_wire + lane.now.width → slice_get users.new w ≡ Some (Some place) }
+    ensures others { lane_on lane.now cycle ≡ true → (w : ℕ) →
+        (w < lane.now.first_wire) ⊎ (lane.now.first_wire + lane.now.width ≤ w) →
         slice_get users.new w ≡ slice_get users.old w }
     ensures off { lane_on lane.now cycle ≡ false → users.new ≡ users.old }
 {
@@ -110,8 +113,9 @@ fn give_active(users: &mut [Option<usize>], lane: &Lane, place: usize, cycle: u6
 fn assign_wires(users: &mut [Option<usize>], lanes: &[SteppedLane], cycle: u64)
     requires { FitLanes lanes.now (length users.old) }
     ensures long { length users.new ≡ length users.old }
-    ensures users { (content : Content) (tests : List PlannedTest) → AreStepped content tests lanes.now →
-        AreOnWires tests (length users.old) → AreUsers tests cycle users.new }
+    ensures users { (content : Content) (tests : List PlannedTest) →
+        AreStepped content tests lanes.now → AreOnWires tests (length users.old) →
+        AreUsers tests cycle users.new }
 {
     clear_users(users);
     for place in 0..lanes.len() {
@@ -122,10 +126,12 @@ fn assign_wires(users: &mut [Option<usize>], lanes: &[SteppedLane], cycle: u64)
 /// The test of a place stands at a cycle, where a wire is the first one of its bus.
 fn stand_at(lanes: &mut [SteppedLane], place: usize, wire: usize, cycle: u64)
     requires within { place < length lanes.old }
-    requires ready { (l : SteppedLane) → slice_get lanes.old place ≡ Some l → IsSteppable l × IsBusy l.lane cycle }
+    requires ready { (l : SteppedLane) → slice_get lanes.old place ≡ Some l →
+        IsSteppable l × IsBusy l.lane cycle }
     ensures long { length lanes.new ≡ length lanes.old }
     ensures others { (i : ℕ) → i ≢ place → slice_get lanes.new i ≡ slice_get lanes.old i }
-    ensures own { (l : SteppedLane) → slice_get lanes.new place ≡ Some l → IsStood lanes.old place wire cycle l }
+    ensures own { (l : SteppedLane) → slice_get lanes.new place ≡ Some l →
+        IsStood lanes.old place wire cycle l }
 {
     if lanes[place].lane.first_wire != wire {
         return;
@@ -140,8 +146,8 @@ fn stand_wire(lanes: &mut [SteppedLane], users: &[Option<usize>], wire: usize, c
     ensures long { length lanes.new ≡ length lanes.old }
     ensures some { AreSomeUsers lanes.new cycle users.now }
     ensures state { lanes_state lanes.new ≡ lanes_state lanes.old }
-    ensures lanes { (content : Content) (tests : List PlannedTest) → AreStepped content tests lanes.old →
-        AreStepped content tests lanes.new }
+    ensures lanes { (content : Content) (tests : List PlannedTest) →
+        AreStepped content tests lanes.old → AreStepped content tests lanes.new }
     ensures now { AreNowBelow lanes.old cycle wire → AreNowBelow lanes.new cycle (wire + 1) }
 {
     match users[wire] {
@@ -155,8 +161,8 @@ fn stand_all(lanes: &mut [SteppedLane], users: &[Option<usize>], cycle: u64)
     requires { AreSomeUsers lanes.old cycle users.now }
     ensures long { length lanes.new ≡ length lanes.old }
     ensures state { lanes_state lanes.new ≡ lanes_state lanes.old }
-    ensures lanes { (content : Content) (tests : List PlannedTest) → AreStepped content tests lanes.old →
-        AreStepped content tests lanes.new }
+    ensures lanes { (content : Content) (tests : List PlannedTest) →
+        AreStepped content tests lanes.old → AreStepped content tests lanes.new }
     ensures now { AreNow lanes.new cycle }
 {
     for wire in 0..users.len() {
@@ -171,8 +177,9 @@ impl Machine {
         ensures cycle { result.cycle ≡ 0 }
         ensures state { lanes_state result.lanes.items ≡ lanes_state lanes.items }
         ensures long { length result.users.items ≡ length users.items }
-        ensures machine { (content : Content) (tests : List PlannedTest) → AreStepped content tests lanes.items →
-            AreOnWires tests (length users.items) → IsMachine content tests result }
+        ensures machine { (content : Content) (tests : List PlannedTest) →
+            AreStepped content tests lanes.items → AreOnWires tests (length users.items) →
+            IsMachine content tests result }
     {
         let mut machine = Machine {
             lanes,
@@ -190,7 +197,8 @@ impl Machine {
         ensures cycle { self.new.cycle ≡ cycle }
         ensures state { lanes_state self.new.lanes.items ≡ lanes_state self.old.lanes.items }
         ensures long { length self.new.users.items ≡ length self.old.users.items }
-        ensures machine { (content : Content) (tests : List PlannedTest) → AreStepped content tests self.old.lanes.items →
+        ensures machine { (content : Content) (tests : List PlannedTest) →
+            AreStepped content tests self.old.lanes.items →
             AreOnWires tests (length self.old.users.items) → IsMachine content tests self.new }
     {
         self.cycle = cycle;
@@ -216,8 +224,8 @@ impl Machine {
     pub fn wanted(&self, wire: usize) -> bool
         requires machine { IsSomeMachine self.now }
         requires wire { wire < length self.now.users.items }
-        ensures { (content : Content) (tests : List PlannedTest) → IsMachine content tests self.now →
-            result ≡ carried content tests self.now.cycle wire }
+        ensures { (content : Content) (tests : List PlannedTest) →
+            IsMachine content tests self.now → result ≡ carried content tests self.now.cycle wire }
     {
         match self.user(wire) {
             Some(stepped) => stepped.wanted(wire - stepped.lane.first_wire),
@@ -229,7 +237,8 @@ impl Machine {
     pub fn shown(&self, wire: usize) -> bool
         requires machine { IsSomeMachine self.now }
         requires wire { wire < length self.now.users.items }
-        ensures { (content : Content) (tests : List PlannedTest) → IsMachine content tests self.now →
+        ensures { (content : Content) (tests : List PlannedTest) →
+            IsMachine content tests self.now →
             result ≡ shown tests (lanes_state self.now.lanes.items) self.now.cycle wire }
     {
         match self.user(wire) {
@@ -242,8 +251,8 @@ impl Machine {
     fn is_compared(&self, wire: usize) -> bool
         requires machine { IsSomeMachine self.now }
         requires wire { wire < length self.now.users.items }
-        ensures { (content : Content) (tests : List PlannedTest) → IsMachine content tests self.now →
-            IsMark tests self.now.cycle wire result }
+        ensures { (content : Content) (tests : List PlannedTest) →
+            IsMachine content tests self.now → IsMark tests self.now.cycle wire result }
     {
         match self.user(wire) {
             Some(stepped) => stepped.is_read(wire - stepped.lane.first_wire),
@@ -256,7 +265,8 @@ impl Machine {
         requires machine { IsSomeMachine self.now }
         requires wires { length drive.old ≡ length self.now.users.items }
         ensures long { length drive.new ≡ length drive.old }
-        ensures bits { (content : Content) (tests : List PlannedTest) → IsMachine content tests self.now → (w : ℕ) → w < length drive.new →
+        ensures bits { (content : Content) (tests : List PlannedTest) →
+            IsMachine content tests self.now → (w : ℕ) → w < length drive.new →
             (get_or drive.new w false) ≡ carried content tests self.now.cycle w }
     {
         for wire in 0..drive.len() {
@@ -269,8 +279,10 @@ impl Machine {
         requires machine { IsSomeMachine self.now }
         requires wires { length read.old ≡ length self.now.users.items }
         ensures long { length read.new ≡ length read.old }
-        ensures bits { (content : Content) (tests : List PlannedTest) → IsMachine content tests self.now → (w : ℕ) → w < length read.new →
-            (get_or read.new w false) ≡ shown tests (lanes_state self.now.lanes.items) self.now.cycle w }
+        ensures bits { (content : Content) (tests : List PlannedTest) →
+            IsMachine content tests self.now → (w : ℕ) → w < length read.new →
+            (get_or read.new w false)
+            ≡ shown tests (lanes_state self.now.lanes.items) self.now.cycle w }
     {
         for wire in 0..read.len() {
             read[wire] = self.shown(wire);
@@ -282,7 +294,8 @@ impl Machine {
         requires machine { IsSomeMachine self.now }
         requires wires { length care.old ≡ length self.now.users.items }
         ensures long { length care.new ≡ length care.old }
-        ensures bits { (content : Content) (tests : List PlannedTest) → IsMachine content tests self.now → (w : ℕ) → w < length care.new →
+        ensures bits { (content : Content) (tests : List PlannedTest) →
+            IsMachine content tests self.now → (w : ℕ) → w < length care.new →
             IsMark tests self.now.cycle w (get_or care.new w false) }
     {
         for wire in 0..care.len() {
@@ -294,8 +307,10 @@ impl Machine {
     fn capture_of(&self, wire: usize) -> Option<bool>
         requires machine { IsSomeMachine self.now }
         requires wire { wire < length self.now.users.items }
-        ensures { (content : Content) (tests : List PlannedTest) → IsMachine content tests self.now →
-            IsWireCapture content tests self.now.cycle wire (lanes_state self.now.lanes.items) result }
+        ensures { (content : Content) (tests : List PlannedTest) →
+            IsMachine content tests self.now →
+            IsWireCapture content tests self.now.cycle wire (lanes_state self.now.lanes.items)
+            result }
     {
         match self.user(wire) {
             Some(stepped) => {
@@ -312,10 +327,12 @@ impl Machine {
     /// How many tests capture at this cycle, and how many of these find their whole stimulus.
     pub fn captures(&self) -> (u64, u64)
         requires machine { IsSomeMachine self.now }
-        ensures captures { (content : Content) (tests : List PlannedTest) → IsMachine content tests self.now →
-            result.0 ≡ captures_at tests self.now.cycle }
-        ensures right { (content : Content) (tests : List PlannedTest) → IsMachine content tests self.now →
-            result.1 ≡ right_loads_at content tests self.now.cycle (lanes_state self.now.lanes.items) }
+        ensures captures { (content : Content) (tests : List PlannedTest) →
+            IsMachine content tests self.now → result.0 ≡ captures_at tests self.now.cycle }
+        ensures right { (content : Content) (tests : List PlannedTest) →
+            IsMachine content tests self.now →
+            result.1
+            ≡ right_loads_at content tests self.now.cycle (lanes_state self.now.lanes.items) }
         ensures few { result.1 ≤ result.0 }
     {
         let mut counts = (0, 0);
@@ -332,10 +349,12 @@ impl Machine {
         ensures cycle { self.new.cycle ≡ self.old.cycle }
         ensures change { self.new.change ≡ self.old.change }
         ensures users { self.new.users ≡ self.old.users }
-        ensures machine { (content : Content) (tests : List PlannedTest) → IsMachine content tests self.old →
-            IsMachine content tests self.new }
-        ensures bits { (content : Content) (tests : List PlannedTest) → IsMachine content tests self.old →
-            IsWireStep content tests self.old.cycle wire drive (lanes_state self.old.lanes.items) (lanes_state self.new.lanes.items) }
+        ensures machine { (content : Content) (tests : List PlannedTest) →
+            IsMachine content tests self.old → IsMachine content tests self.new }
+        ensures bits { (content : Content) (tests : List PlannedTest) →
+            IsMachine content tests self.old →
+            IsWireStep content tests self.old.cycle wire drive (lanes_state self.old.lanes.items)
+            (lanes_state self.new.lanes.items) }
     {
         match self.users[wire] {
             Some(place) => {
@@ -354,10 +373,12 @@ impl Machine {
         ensures cycle { self.new.cycle ≡ self.old.cycle }
         ensures change { self.new.change ≡ self.old.change }
         ensures users { self.new.users ≡ self.old.users }
-        ensures machine { (content : Content) (tests : List PlannedTest) → IsMachine content tests self.old →
-            IsMachine content tests self.new }
-        ensures state { (content : Content) (tests : List PlannedTest) → IsMachine content tests self.old →
-            lanes_state self.new.lanes.items ≡ step content tests (λ w. slice_index_or drive.now w false) self.old.cycle
+        ensures machine { (content : Content) (tests : List PlannedTest) →
+            IsMachine content tests self.old → IsMachine content tests self.new }
+        ensures state { (content : Content) (tests : List PlannedTest) →
+            IsMachine content tests self.old →
+            lanes_state self.new.lanes.items
+            ≡ step content tests (λ w. slice_index_or drive.now w false) self.old.cycle
             (lanes_state self.old.lanes.items) }
     {
         for wire in 0..drive.len() {
@@ -372,8 +393,8 @@ impl Machine {
         ensures cycle { self.new.cycle ≡ self.old.cycle + 1 }
         ensures state { lanes_state self.new.lanes.items ≡ lanes_state self.old.lanes.items }
         ensures long { length self.new.users.items ≡ length self.old.users.items }
-        ensures machine { (content : Content) (tests : List PlannedTest) → IsMachine content tests self.old →
-            IsMachine content tests self.new }
+        ensures machine { (content : Content) (tests : List PlannedTest) →
+            IsMachine content tests self.old → IsMachine content tests self.new }
     {
         let next = self.cycle + 1;
         if next < self.change {

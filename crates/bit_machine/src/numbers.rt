@@ -35,7 +35,8 @@ impl Model for Numbers {
 
     ghost view = { λ n. all_numbers n.runs.items };
 
-    ghost invariant = { λ n. (n.count ≡ length (all_numbers n.runs.items)) × All IsFull n.runs.items };
+    ghost invariant = { λ n. (n.count ≡ length (all_numbers n.runs.items))
+        × All IsFull n.runs.items };
 }
 
 /// A walk over numbers: the run that is next, how many numbers are left of the one before it, and the value of the first of these.
@@ -74,7 +75,8 @@ fn refilled<B: PatternBits>(runs: &[NumberRun], bits: &B, walk: Walk) -> Walk
     requires full { All IsFull runs.now }
     requires next { HasNext runs.now (B.value_of bits.now) walk }
     ensures some { 1 ≤ result.left }
-    ensures walk { (rest : List ℕ) → IsWalk runs.now (B.value_of bits.now) walk rest → IsWalk runs.now (B.value_of bits.now) result rest }
+    ensures walk { (rest : List ℕ) → IsWalk runs.now (B.value_of bits.now) walk rest →
+        IsWalk runs.now (B.value_of bits.now) result rest }
 {
     if walk.left > 0 {
         return walk;
@@ -93,8 +95,10 @@ fn next_value<B: PatternBits>(runs: &[NumberRun], bits: &B, walk: &mut Walk) -> 
     requires full { All IsFull runs.now }
     requires next { HasNext runs.now (B.value_of bits.now) walk.old }
     ensures some { IsValue (B.value_of bits.now) result }
-    ensures value { (n : ℕ) (more : List ℕ) → IsWalk runs.now (B.value_of bits.now) walk.old (n ∷ more) → result ≡ B.value_of bits.now n }
-    ensures walk { (n : ℕ) (more : List ℕ) → IsWalk runs.now (B.value_of bits.now) walk.old (n ∷ more) →
+    ensures value { (n : ℕ) (more : List ℕ) →
+        IsWalk runs.now (B.value_of bits.now) walk.old (n ∷ more) → result ≡ B.value_of bits.now n }
+    ensures walk { (n : ℕ) (more : List ℕ) →
+        IsWalk runs.now (B.value_of bits.now) walk.old (n ∷ more) →
         IsWalk runs.now (B.value_of bits.now) walk.new more }
 {
     let here = refilled(runs, bits, *walk);
@@ -114,7 +118,8 @@ fn word_of(runs: &[NumberRun], line: &Line, first: usize, count: usize) -> u64
     requires some { 1 ≤ count }
     requires few { count ≤ 64 }
     requires within { first + count ≤ length (all_numbers runs.now) }
-    ensures bits { (i : ℕ) → i < count → is_set result i ≡ line_bit line.now (slice_index (all_numbers runs.now) (first + i)) }
+    ensures bits { (i : ℕ) → i < count →
+        is_set result i ≡ line_bit line.now (slice_index (all_numbers runs.now) (first + i)) }
     ensures rest { (i : ℕ) → count ≤ i → i < 64 → is_set result i ≡ false }
 {
     let mut walk = walk_from(runs, line, first as u64);
@@ -134,8 +139,10 @@ fn put_run<B: PatternBits>(pattern: &B, first: u64, count: usize, text: &mut [u8
     requires narrow { at.wires ≤ 256 }
     requires column { at.column < 2 * at.wires + 2 }
     requires rows { (at.row + count) * (2 * at.wires + 2) ≤ length text.old }
-    ensures after { (n : ℕ) → first ≡ B.value_of pattern.now n → n + count < 2 ^ 64 → result ≡ B.value_of pattern.now (n + count) }
-    ensures put { (n : ℕ) → first ≡ B.value_of pattern.now n → n + count < 2 ^ 64 → ArePutDown at.wires at.row count at.column
+    ensures after { (n : ℕ) → first ≡ B.value_of pattern.now n → n + count < 2 ^ 64 →
+        result ≡ B.value_of pattern.now (n + count) }
+    ensures put { (n : ℕ) → first ≡ B.value_of pattern.now n → n + count < 2 ^ 64 →
+        ArePutDown at.wires at.row count at.column
         (λ i. B.byte_of pattern.now (n + (count - 1 - i))) text.old text.new }
 {
     // a copy of its own, which no write to the text can change
@@ -166,8 +173,9 @@ fn put_back<B: PatternBits>(
     requires narrow { at.wires ≤ 256 }
     requires column { at.column < 2 * at.wires + 2 }
     requires rows { (at.row + count) * (2 * at.wires + 2) ≤ length text.old }
-    ensures { ArePutDown at.wires at.row count at.column (λ i. B.byte_of bits.now (slice_index (all_numbers runs.now) (last - i)))
-        text.old text.new }
+    ensures { ArePutDown at.wires at.row count at.column
+        (λ i. B.byte_of bits.now (slice_index (all_numbers runs.now) (last - i))) text.old
+        text.new }
 {
     let first = last - (count - 1);
     let mut walk = walk_from(runs, bits, first as u64);
@@ -248,8 +256,8 @@ impl Numbers {
         requires narrow { at.wires ≤ 256 }
         requires column { at.column < 2 * at.wires + 2 }
         requires rows { (at.row + count) * (2 * at.wires + 2) ≤ length text.old }
-        ensures { ArePutDown at.wires at.row count at.column (λ i. B.byte_of bits.now (slice_index self.now (last - i)))
-            text.old text.new }
+        ensures { ArePutDown at.wires at.row count at.column
+            (λ i. B.byte_of bits.now (slice_index self.now (last - i))) text.old text.new }
     {
         put_back(&self.runs, bits, last, count, text, at);
     }

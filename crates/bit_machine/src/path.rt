@@ -41,8 +41,9 @@ impl Path {
     pub fn holds(&self, ring: &Ring, base: u64, pattern: u64) -> bool
         requires base { base < 997 }
         requires fits { length self.now.loads ≤ length ring.now }
-        ensures { (inputs : ℕ) (lengths : List ℕ) (cells : List Cell) → IsPath inputs lengths cells self.now →
-            length ring.now ≡ self.now.cells → result ≡ chain_holds (path_stimulus base inputs lengths pattern) cells ring.now }
+        ensures { (inputs : ℕ) (lengths : List ℕ) (cells : List Cell) →
+            IsPath inputs lengths cells self.now → length ring.now ≡ self.now.cells →
+            result ≡ chain_holds (path_stimulus base inputs lengths pattern) cells ring.now }
     {
         let line = Line::of(base, pattern, 0);
         let mut word = 0;
@@ -60,8 +61,9 @@ impl Path {
         requires base { base < 997 }
         requires fits { length self.now.answers ≤ length ring.old }
         ensures long { length ring.new ≡ length ring.old }
-        ensures bits { (inputs : ℕ) (lengths : List ℕ) (cells : List Cell) → IsPath inputs lengths cells self.now →
-            length ring.old ≡ self.now.cells → ring.new ≡ captured (path_response base lengths pattern) cells ring.old }
+        ensures bits { (inputs : ℕ) (lengths : List ℕ) (cells : List Cell) →
+            IsPath inputs lengths cells self.now → length ring.old ≡ self.now.cells →
+            ring.new ≡ captured (path_response base lengths pattern) cells ring.old }
     {
         let line = Line::of(base, pattern, 1);
         let count = self.answers.len();
@@ -79,9 +81,11 @@ impl Path {
         requires base { base < 997 }
         requires fits { length self.now.answers ≤ length ring.old }
         ensures long { length ring.new ≡ length ring.old }
-        ensures bits { (inputs : ℕ) (lengths : List ℕ) (cells : List Cell) → IsPath inputs lengths cells self.now →
-            length ring.old ≡ self.now.cells →
-            ring.new ≡ next_bits (path_response base lengths) cells (Some (moment_operation moment)) drive ring.old }
+        ensures bits { (inputs : ℕ) (lengths : List ℕ) (cells : List Cell) →
+            IsPath inputs lengths cells self.now → length ring.old ≡ self.now.cells →
+            ring.new
+            ≡ next_bits (path_response base lengths) cells (Some (moment_operation moment))
+            drive ring.old }
     {
         match moment {
             Moment::Setup => {}

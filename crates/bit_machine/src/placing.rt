@@ -73,12 +73,14 @@ fn self_test(alloc: Global, placed: &PlacedTest) -> Lane
 
 /// The chains of a module in a wrapper.
 fn wrapped_paths(alloc: Global, module: &Module, wrapper: &Wrapper) -> Result<Vec<Path>, NoMemory>
-    requires proper { IsProper (module_value «module».now) wrapper.now.scan (map chain_value wrapper.now.chains.items) }
+    requires proper { IsProper (module_value «module».now) wrapper.now.scan
+        (map chain_value wrapper.now.chains.items) }
     requires small { module_size (module_value «module».now) ≤ 10 ^ 18 }
     ensures { IfOk result (λ paths. ArePaths («module».now.inputs + «module».now.bidirs)
         (scan_lengths (module_value «module».now) wrapper.now.scan)
-        (chain_cells (module_value «module».now) wrapper.now.scan (map chain_value wrapper.now.chains.items))
-        (length wrapper.now.chains.items) paths.items) }
+        (chain_cells (module_value «module».now) wrapper.now.scan
+        (map chain_value wrapper.now.chains.items)) (length wrapper.now.chains.items)
+        paths.items) }
 {
     let layout = Layout::new(alloc, module, wrapper)?;
     paths_of(alloc, module.inputs + module.bidirs, &layout)
@@ -133,14 +135,15 @@ impl<'a> Setting<'a> {
             ≡ Some (module_value wrapped.now.core.«module».now) }
         requires wrappers { AreModeWrappers self.now.placed.now.plan
             (module_value wrapped.now.core.«module».now) wrapped.now.core.wrappers.now }
-        requires test_there { slice_get wrapped.now.core.«module».now.tests.items wrapped.now.at ≡ Some wrapped.now.test.now }
+        requires test_there { slice_get wrapped.now.core.«module».now.tests.items wrapped.now.at
+            ≡ Some wrapped.now.test.now }
         requires live { IsTrue (is_live wrapped.now.test.now) }
         requires placed { placed.now
             ≡ placed_of (planned_test self.now.placed.now.plan wrapped.now.core.place
             (module_value wrapped.now.core.«module».now) wrapped.now.test.now) }
         requires over { placed.now.bus ≡ Some bus }
-        ensures { IfOk result (IsPlacedLane (C.keys contents.now) self.now.placed.now.soc self.now.placed.now.plan
-            (planned_test self.now.placed.now.plan wrapped.now.core.place
+        ensures { IfOk result (IsPlacedLane (C.keys contents.now) self.now.placed.now.soc
+            self.now.placed.now.plan (planned_test self.now.placed.now.plan wrapped.now.core.place
             (module_value wrapped.now.core.«module».now) wrapped.now.test.now)) }
     {
         let (core, test) = (wrapped.core, wrapped.test);
@@ -186,11 +189,13 @@ impl<'a> Setting<'a> {
         requires firsts { AreFirstWires (widths self.now.placed.now.plan) self.now.firsts.now }
         requires module_there { slice_get self.now.placed.now.soc.modules core.now.place
             ≡ Some (module_value core.now.«module».now) }
-        requires wrappers { AreModeWrappers self.now.placed.now.plan (module_value core.now.«module».now) core.now.wrappers.now }
+        requires wrappers { AreModeWrappers self.now.placed.now.plan
+            (module_value core.now.«module».now) core.now.wrappers.now }
         requires test_there { slice_get core.now.«module».now.tests.items at ≡ Some test.now }
         requires live { IsTrue (is_live test.now) }
-        ensures { IfOk result (IsPlacedLane (C.keys contents.now) self.now.placed.now.soc self.now.placed.now.plan
-            (planned_test self.now.placed.now.plan core.now.place (module_value core.now.«module».now) test.now)) }
+        ensures { IfOk result (IsPlacedLane (C.keys contents.now) self.now.placed.now.soc
+            self.now.placed.now.plan (planned_test self.now.placed.now.plan core.now.place
+            (module_value core.now.«module».now) test.now)) }
     {
         let placed = self.placed.test(core.place, core.module, test);
         match placed.bus {
@@ -219,13 +224,19 @@ impl<'a> Setting<'a> {
         requires firsts { AreFirstWires (widths self.now.placed.now.plan) self.now.firsts.now }
         requires module_there { slice_get self.now.placed.now.soc.modules core.now.place
             ≡ Some (module_value core.now.«module».now) }
-        requires wrappers { AreModeWrappers self.now.placed.now.plan (module_value core.now.«module».now) core.now.wrappers.now }
+        requires wrappers { AreModeWrappers self.now.placed.now.plan
+            (module_value core.now.«module».now) core.now.wrappers.now }
         requires test_there { slice_get core.now.«module».now.tests.items at ≡ Some test.now }
         ensures { (done : List PlannedTest) →
-            AreLanes (IsPlacedLane (C.keys contents.now) self.now.placed.now.soc self.now.placed.now.plan) done lanes.old.items →
-            OnOk result (AreLanes (IsPlacedLane (C.keys contents.now) self.now.placed.now.soc self.now.placed.now.plan)
-            (done ++ planned_in self.now.placed.now.plan core.now.place (module_value core.now.«module».now) (test.now ∷ []))
-            lanes.new.items) }
+            AreLanes
+            (IsPlacedLane (C.keys contents.now) self.now.placed.now.soc
+            self.now.placed.now.plan) done lanes.old.items →
+            OnOk result (AreLanes
+            (IsPlacedLane (C.keys contents.now) self.now.placed.now.soc
+            self.now.placed.now.plan)
+            (done
+            ++ planned_in self.now.placed.now.plan core.now.place
+            (module_value core.now.«module».now) (test.now ∷ [])) lanes.new.items) }
     {
         if !live(test) {
             return Ok(());
@@ -243,11 +254,18 @@ impl<'a> Setting<'a> {
         place: usize,
     ) -> Result<(), NoMemory>
         requires firsts { AreFirstWires (widths self.now.placed.now.plan) self.now.firsts.now }
-        requires module_there { slice_get self.now.placed.now.soc.modules place ≡ Some (module_value «module».now) }
+        requires module_there { slice_get self.now.placed.now.soc.modules place
+            ≡ Some (module_value «module».now) }
         ensures { (done : List PlannedTest) →
-            AreLanes (IsPlacedLane (C.keys contents.now) self.now.placed.now.soc self.now.placed.now.plan) done lanes.old.items →
-            OnOk result (AreLanes (IsPlacedLane (C.keys contents.now) self.now.placed.now.soc self.now.placed.now.plan)
-            (done ++ planned_in self.now.placed.now.plan place (module_value «module».now) «module».now.tests.items) lanes.new.items) }
+            AreLanes
+            (IsPlacedLane (C.keys contents.now) self.now.placed.now.soc
+            self.now.placed.now.plan) done lanes.old.items →
+            OnOk result (AreLanes
+            (IsPlacedLane (C.keys contents.now) self.now.placed.now.soc
+            self.now.placed.now.plan)
+            (done
+            ++ planned_in self.now.placed.now.plan place (module_value «module».now)
+            «module».now.tests.items) lanes.new.items) }
     {
         let wrappers = self.placed.wrappers(place);
         let core = WrappedModule {
@@ -264,8 +282,8 @@ impl<'a> Setting<'a> {
     /// The live tests of the chip, in its order.
     fn lanes<C: Contents>(&self, alloc: Global, contents: &C) -> Result<Vec<Lane>, NoMemory>
         requires firsts { AreFirstWires (widths self.now.placed.now.plan) self.now.firsts.now }
-        ensures { IfOk result (λ lanes.
-            AreLanes (IsPlacedLane (C.keys contents.now) self.now.placed.now.soc self.now.placed.now.plan)
+        ensures { IfOk result (λ lanes. AreLanes
+            (IsPlacedLane (C.keys contents.now) self.now.placed.now.soc self.now.placed.now.plan)
             (planned self.now.placed.now.soc self.now.placed.now.plan) lanes.items) }
     {
         let soc = soc_of(self.placed);
@@ -286,7 +304,8 @@ pub fn placed_lanes<C: Contents>(
     firsts: &[u64],
 ) -> Result<Vec<Lane>, NoMemory>
     requires { AreFirstWires (widths placed.now.plan) firsts.now }
-    ensures { IfOk result (λ lanes. AreLanes (IsPlacedLane (C.keys contents.now) placed.now.soc placed.now.plan)
+    ensures { IfOk result
+        (λ lanes. AreLanes (IsPlacedLane (C.keys contents.now) placed.now.soc placed.now.plan)
         (planned placed.now.soc placed.now.plan) lanes.items) }
 {
     let setting = Setting { placed, firsts };

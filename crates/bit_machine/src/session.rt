@@ -30,7 +30,8 @@ impl Model for Session {
 
     ghost Value = { SessionValue };
 
-    ghost view = { λ s. record { lengths = s.layout.lengths.items; cells = layout_cells s.layout; bits = s.bits.items } };
+    ghost view = { λ s. record
+        { lengths = s.layout.lengths.items; cells = layout_cells s.layout; bits = s.bits.items } };
 
     ghost invariant = { λ s. IsLayout s.layout × IsLong s.layout s.bits.items };
 }
@@ -53,9 +54,11 @@ impl Session {
     ///
     /// Every module of a sound chip is small enough: `module_size-le` of plan_model's proofs/SoundChips.antt.
     pub fn new(alloc: Global, module: &Module, wrapper: &Wrapper) -> Result<Session, NoMemory>
-        requires proper { IsProper (module_value «module».now) wrapper.now.scan (map chain_value wrapper.now.chains.items) }
+        requires proper { IsProper (module_value «module».now) wrapper.now.scan
+            (map chain_value wrapper.now.chains.items) }
         requires small { module_size (module_value «module».now) ≤ 10 ^ 18 }
-        ensures { IfOk result (λ session. session ≡ at_rest (module_value «module».now) wrapper.now.scan
+        ensures { IfOk result (λ session. session
+            ≡ at_rest (module_value «module».now) wrapper.now.scan
             (map chain_value wrapper.now.chains.items)) }
     {
         let layout = Layout::new(alloc, module, wrapper)?;

@@ -135,8 +135,11 @@ impl SteppedLane {
     /// The bit that a wire of the bus carries, counted from the first wire of the bus.
     pub fn wanted(&self, chain: usize) -> bool
         requires { IsSteppable self.now }
-        ensures { (content : Content) (t : PlannedTest) (cycle : ℕ) → t.tam ≡ true → IsLane content t self.now.lane → IsNow self.now cycle →
-            result ≡ wanted (content.stimulus t.id) (chain_at t chain) (drop (cycle - t.start) t.operations) }
+        ensures { (content : Content) (t : PlannedTest) (cycle : ℕ) → t.tam ≡ true →
+            IsLane content t self.now.lane → IsNow self.now cycle →
+            result
+            ≡ wanted (content.stimulus t.id) (chain_at t chain)
+            (drop (cycle - t.start) t.operations) }
     {
         if chain >= self.pages.len() {
             return false;
@@ -159,7 +162,8 @@ impl SteppedLane {
 
     /// Whether a response bit is read on a wire of the bus.
     pub fn is_read(&self, chain: usize) -> bool
-        ensures { (content : Content) (t : PlannedTest) → t.tam ≡ true → IsLane content t self.now.lane →
+        ensures { (content : Content) (t : PlannedTest) → t.tam ≡ true →
+            IsLane content t self.now.lane →
             result ≡ is_answered (chain_at t chain) (moment_behind self.now.moment) }
     {
         if chain >= self.lane.paths.len() {
@@ -174,7 +178,8 @@ impl SteppedLane {
     /// Whether all chains hold a pattern.
     fn holds(&self, pattern: u64) -> bool
         requires { IsSteppable self.now }
-        ensures { (content : Content) (t : PlannedTest) → t.tam ≡ true → IsLane content t self.now.lane →
+        ensures { (content : Content) (t : PlannedTest) → t.tam ≡ true →
+            IsLane content t self.now.lane →
             result ≡ holds (content.stimulus t.id pattern) t.chains (lane_bits self.now) }
     {
         for chain in 0..self.lane.paths.len() {
@@ -189,9 +194,11 @@ impl SteppedLane {
     /// Whether the test captures now, and whether its whole stimulus stands in the cells.
     pub fn capture_of(&self) -> Option<bool>
         requires { IsSteppable self.now }
-        ensures { (content : Content) (t : PlannedTest) (cycle : ℕ) → t.tam ≡ true → IsLane content t self.now.lane →
-            IsNow self.now cycle → result ≡ capture_answer (content.stimulus t.id) (slice_get t.operations (cycle - t.start)) t.chains
-            (lane_bits self.now) }
+        ensures { (content : Content) (t : PlannedTest) (cycle : ℕ) → t.tam ≡ true →
+            IsLane content t self.now.lane → IsNow self.now cycle →
+            result
+            ≡ capture_answer (content.stimulus t.id) (slice_get t.operations (cycle - t.start))
+            t.chains (lane_bits self.now) }
     {
         match self.moment {
             Moment::Capture { pattern } => Some(self.holds(pattern)),
@@ -204,9 +211,11 @@ impl SteppedLane {
         requires { IsSteppable self.old }
         ensures lane { self.new.lane ≡ self.old.lane }
         ensures ready { IsSteppable self.new }
-        ensures bits { (content : Content) (t : PlannedTest) (cycle : ℕ) → t.tam ≡ true → IsLane content t self.old.lane →
-            IsNow self.old cycle → lane_bits self.new ≡ set (lane_bits self.old) chain
-            (next_bits (content.response t.id) (chain_at t chain) (slice_get t.operations (cycle - t.start)) drive
+        ensures bits { (content : Content) (t : PlannedTest) (cycle : ℕ) → t.tam ≡ true →
+            IsLane content t self.old.lane → IsNow self.old cycle →
+            lane_bits self.new
+            ≡ set (lane_bits self.old) chain (next_bits (content.response t.id)
+            (chain_at t chain) (slice_get t.operations (cycle - t.start)) drive
             (get_or (lane_bits self.old) chain [])) }
         ensures now { (cycle : ℕ) → IsNow self.old cycle → IsNow self.new cycle }
     {
@@ -225,7 +234,8 @@ fn fill_words(words: &mut [u64], paths: &[Path], line: &Line, first: usize)
     requires step { line.now.step < 997 }
     requires many { length words.old ≡ length paths.now }
     ensures many { length words.new ≡ length paths.now }
-    ensures words { (j : ℕ) (p : Path) → slice_get paths.now j ≡ Some p → IsLineWord line.now p.loads first (slice_index words.new j) }
+    ensures words { (j : ℕ) (p : Path) → slice_get paths.now j ≡ Some p →
+        IsLineWord line.now p.loads first (slice_index words.new j) }
 {
     for place in 0..words.len() {
         words[place] = paths[place].loads.word(line, first);

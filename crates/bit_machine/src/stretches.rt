@@ -32,7 +32,8 @@ struct Stretch {
 /// How many Shifts there are from one on behind the last capture, at least itself.
 fn shifts_to_end(phases: &Phases, behind: Option<Turn>) -> u64
     ensures some { 1 ≤ result }
-    ensures shifts { (n : ℕ) → IsMoment phases.now n (moment.Shift None behind) → AreShifts phases.now n None behind result }
+    ensures shifts { (n : ℕ) → IsMoment phases.now n (moment.Shift None behind) →
+        AreShifts phases.now n None behind result }
 {
     match behind {
         Some(turn) => {
@@ -50,7 +51,8 @@ fn shifts_to_end(phases: &Phases, behind: Option<Turn>) -> u64
 fn shifts_to_come(phases: &Phases, ahead: Option<Turn>, behind: Option<Turn>) -> u64
     ensures some { 1 ≤ result }
     ensures back { (t : Turn) → ahead ≡ Some t → result ≤ t.shifts + 1 }
-    ensures shifts { (n : ℕ) → IsMoment phases.now n (moment.Shift ahead behind) → AreShifts phases.now n ahead behind result }
+    ensures shifts { (n : ℕ) → IsMoment phases.now n (moment.Shift ahead behind) →
+        AreShifts phases.now n ahead behind result }
 {
     match ahead {
         Some(turn) => turn.shifts.saturating_add(1),
@@ -89,7 +91,8 @@ fn put_load<C: Contents>(
     requires column { at.column < 2 * at.wires + 2 }
     requires rows { (at.row + stretch.count) * (2 * at.wires + 2) ≤ length text.old }
     ensures long { length text.new ≡ length text.old }
-    ensures driven { IsDriven (C.drive contents.now key) path.now at.wires at.row stretch.count at.column stretch.ahead text.old text.new }
+    ensures driven { IsDriven (C.drive contents.now key) path.now at.wires at.row stretch.count
+        at.column stretch.ahead text.old text.new }
     ensures others { IsKeptElsewhere at.wires at.row stretch.count at.column text.old text.new }
 {
     match stretch.ahead {
@@ -128,7 +131,8 @@ fn put_answer<C: Contents>(
     requires column { at.column < 2 * at.wires + 2 }
     requires rows { (at.row + stretch.count) * (2 * at.wires + 2) ≤ length text.old }
     ensures long { length text.new ≡ length text.old }
-    ensures read { IsRead (C.mark contents.now key) path.now at.wires at.row stretch.count at.column stretch.behind text.old text.new }
+    ensures read { IsRead (C.mark contents.now key) path.now at.wires at.row stretch.count at.column
+        stretch.behind text.old text.new }
     ensures others { IsKeptElsewhere at.wires at.row stretch.count at.column text.old text.new }
 {
     match stretch.behind {
@@ -163,8 +167,9 @@ fn put_chains<C: Contents>(
     requires back { (t : Turn) → stretch.ahead ≡ Some t → stretch.count ≤ t.shifts + 1 }
     requires columns { lane.now.first_wire + length lane.now.paths.items ≤ wires }
     requires rows { (row + stretch.count) * (2 * wires + 2) ≤ length text.old }
-    ensures { AreChainsPut (C.drive contents.now lane.now.key) (C.mark contents.now lane.now.key) lane.now.paths.items
-        (length lane.now.paths.items) wires row stretch.count lane.now.first_wire stretch.ahead stretch.behind text.old text.new }
+    ensures { AreChainsPut (C.drive contents.now lane.now.key) (C.mark contents.now lane.now.key)
+        lane.now.paths.items (length lane.now.paths.items) wires row stretch.count
+        lane.now.first_wire stretch.ahead stretch.behind text.old text.new }
 {
     for chain in 0..lane.paths.len() {
         let path = &lane.paths[chain];
@@ -204,8 +209,10 @@ fn put_stretch<C: Contents>(
     requires rows { (row + most) * (2 * wires + 2) ≤ length text.old }
     ensures some { 1 ≤ result }
     ensures few { result ≤ most }
-    ensures played { (content : Content) (marks : Marks) (tests : List PlannedTest) (i : ℕ) (t : PlannedTest) →
-        HasLane (IsFilled (C.drive contents.now) (C.mark contents.now) content marks) tests wires i t lane.now →
+    ensures played { (content : Content) (marks : Marks) (tests : List PlannedTest) (i : ℕ)
+        (t : PlannedTest) →
+        HasLane (IsFilled (C.drive contents.now) (C.mark contents.now) content marks) tests wires i
+        t lane.now →
         ArePlayed content marks t wires cycle (cycle + result) row text.old text.new }
 {
     match lane.phases.at(cycle - lane.start) {
@@ -240,9 +247,11 @@ fn put_test<C: Contents>(
     requires fits { from + count < 2 ^ 64 }
     requires rows { count * (2 * wires + 2) ≤ length text.old }
     ensures long { length text.new ≡ length text.old }
-    ensures played { (content : Content) (marks : Marks) (tests : List PlannedTest) (i : ℕ) (t : PlannedTest) →
-        HasLane (IsFilled (C.drive contents.now) (C.mark contents.now) content marks) tests wires i t lane.now →
-        (r : ℕ) → r < count → IsPlayed content marks t wires (from + r) r text.old text.new }
+    ensures played { (content : Content) (marks : Marks) (tests : List PlannedTest) (i : ℕ)
+        (t : PlannedTest) →
+        HasLane (IsFilled (C.drive contents.now) (C.mark contents.now) content marks) tests wires i
+        t lane.now → (r : ℕ) → r < count →
+        IsPlayed content marks t wires (from + r) r text.old text.new }
 {
     if !lane.tam {
         return;
@@ -270,8 +279,9 @@ pub fn put_tests<C: Contents>(
     requires rows { count * (2 * wires + 2) ≤ length text.old }
     ensures long { length text.new ≡ length text.old }
     ensures lines { (content : Content) (marks : Marks) (tests : List PlannedTest) →
-        AreLanes (IsFilled (C.drive contents.now) (C.mark contents.now) content marks) tests lanes.now → AreOnWires tests wires → (r : ℕ) →
-        r < count → IsLineOf content marks tests wires (from + r) r text.new }
+        AreLanes (IsFilled (C.drive contents.now) (C.mark contents.now) content marks) tests
+        lanes.now → AreOnWires tests wires → (r : ℕ) → r < count →
+        IsLineOf content marks tests wires (from + r) r text.new }
 {
     put_blanks(text, wires, count as usize);
     for place in 0..lanes.len() {

@@ -48,8 +48,9 @@ impl Vectors {
         ensures long { length text.new ≡ length text.old }
         ensures lines { (soc : SocValue) (plan : PlanValue) (content : Content) (marks : Marks) →
             AreVectors (C.keys contents.now) soc plan self.now →
-            StandFor (C.keys contents.now) (C.drive contents.now) (C.mark contents.now) soc content marks →
-            (r : ℕ) → r < count → IsLineOf content marks (planned soc plan) (wires_of plan) (from + r) r text.new }
+            StandFor (C.keys contents.now) (C.drive contents.now) (C.mark contents.now) soc content
+            marks → (r : ℕ) → r < count →
+            IsLineOf content marks (planned soc plan) (wires_of plan) (from + r) r text.new }
     {
         put_tests(text, self.wires, &self.lanes, contents, from, count);
     }

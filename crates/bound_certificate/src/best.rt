@@ -36,11 +36,13 @@ fn best_with(
     cycles: u64,
     chain: Option<Vec<TestId>>,
 ) -> Result<Bound, NoMemory>
-    requires chain { IfSome chain (λ v. Each (IsChainItem problem.now.soc problem.now.limits) v.items) }
+    requires chain { IfSome chain
+        (λ v. Each (IsChainItem problem.now.soc problem.now.limits) v.items) }
     requires good { (n : ℕ) → IsBound problem.now.soc problem.now.limits n → n ≤ cycles }
-    ensures best { IfOk result (λ bound. IsBestWith problem.now.soc problem.now.limits cycles (names_of chain)
-        (bound_value bound)) }
-    ensures accepted { IfOk result (λ bound. IsAccepted problem.now.soc problem.now.limits (bound_value bound)) }
+    ensures best { IfOk result (λ bound. IsBestWith problem.now.soc problem.now.limits cycles
+        (names_of chain) (bound_value bound)) }
+    ensures accepted { IfOk result
+        (λ bound. IsAccepted problem.now.soc problem.now.limits (bound_value bound)) }
     ensures few { IfOk result (λ bound. bound.cycles ≤ cycles) }
 {
     let soc = problem.soc;
@@ -69,10 +71,14 @@ pub fn best_bound(alloc: Global, soc: &Soc, limits: &Limits, cycles: u64) -> Res
     requires sound { IsSoundChip (soc_value soc.now) }
     requires limits { IsSoundLimits (soc_value soc.now) (limits_value limits.now) }
     requires good { (n : ℕ) → IsBound (soc_value soc.now) (limits_value limits.now) n → n ≤ cycles }
-    ensures best { IfOk result (λ bound. IsBestBound (soc_value soc.now) (limits_value limits.now) cycles (bound_value bound)) }
-    ensures accepted { IfOk result (λ bound. IsAccepted (soc_value soc.now) (limits_value limits.now) (bound_value bound)) }
-    ensures bound { IfOk result (λ bound. IsBound (soc_value soc.now) (limits_value limits.now) bound.cycles) }
-    ensures elementary { IfOk result (λ bound. (n : ℕ) → IsElementary (soc_value soc.now) (limits_value limits.now) n → n ≤ bound.cycles) }
+    ensures best { IfOk result (λ bound. IsBestBound (soc_value soc.now) (limits_value limits.now)
+        cycles (bound_value bound)) }
+    ensures accepted { IfOk result
+        (λ bound. IsAccepted (soc_value soc.now) (limits_value limits.now) (bound_value bound)) }
+    ensures bound { IfOk result
+        (λ bound. IsBound (soc_value soc.now) (limits_value limits.now) bound.cycles) }
+    ensures elementary { IfOk result (λ bound. (n : ℕ) →
+        IsElementary (soc_value soc.now) (limits_value limits.now) n → n ≤ bound.cycles) }
     ensures few { IfOk result (λ bound. bound.cycles ≤ cycles) }
     ensures names { IfOk result (λ bound. NamesInChip (soc_value soc.now) (why_value bound.why)) }
     ensures numbers { IfOk result (λ bound. HasPlanNumbers (why_value bound.why)) }
@@ -85,10 +91,13 @@ pub fn best_bound(alloc: Global, soc: &Soc, limits: &Limits, cycles: u64) -> Res
 /// The planner's bound for a problem, as [`best_bound`] answers it.
 pub fn best_bound_with(alloc: Global, problem: &Problem<'_>, cycles: u64) -> Result<Bound, NoMemory>
     requires good { (n : ℕ) → IsBound problem.now.soc problem.now.limits n → n ≤ cycles }
-    ensures best { IfOk result (λ bound. IsBestBound problem.now.soc problem.now.limits cycles (bound_value bound)) }
-    ensures accepted { IfOk result (λ bound. IsAccepted problem.now.soc problem.now.limits (bound_value bound)) }
+    ensures best { IfOk result
+        (λ bound. IsBestBound problem.now.soc problem.now.limits cycles (bound_value bound)) }
+    ensures accepted { IfOk result
+        (λ bound. IsAccepted problem.now.soc problem.now.limits (bound_value bound)) }
     ensures bound { IfOk result (λ bound. IsBound problem.now.soc problem.now.limits bound.cycles) }
-    ensures elementary { IfOk result (λ bound. (n : ℕ) → IsElementary problem.now.soc problem.now.limits n → n ≤ bound.cycles) }
+    ensures elementary { IfOk result
+        (λ bound. (n : ℕ) → IsElementary problem.now.soc problem.now.limits n → n ≤ bound.cycles) }
     ensures few { IfOk result (λ bound. bound.cycles ≤ cycles) }
     ensures names { IfOk result (λ bound. NamesInChip problem.now.soc (why_value bound.why)) }
     ensures numbers { IfOk result (λ bound. HasPlanNumbers (why_value bound.why)) }

@@ -49,8 +49,10 @@ fn has_live_test(soc: &Soc, place: usize) -> bool
 fn has_live_family(soc: &Soc, place: usize, parent: Option<usize>) -> bool
     requires place { place < length (soc_value soc.now).modules }
     requires parent { parent ≡ parent_place (soc_value soc.now).modules place }
-    ensures { result ≡ (has_live_at (soc_value soc.now) place
-        && passes (has_live_at (soc_value soc.now)) (parent_place (soc_value soc.now).modules place)) }
+    ensures { result
+        ≡ (has_live_at (soc_value soc.now) place
+        && passes (has_live_at (soc_value soc.now))
+        (parent_place (soc_value soc.now).modules place)) }
 {
     if !has_live_test(soc, place) {
         return false;
@@ -69,7 +71,8 @@ fn consider_module(
 ) -> Option<(u128, Why)>
     requires place { place < length problem.now.soc.modules }
     requires value { HasValue problem.now.soc problem.now.limits best }
-    ensures seen { seen result ≡ fold (better (certificate_value problem.now.soc problem.now.limits)) (seen best)
+    ensures seen { seen result
+        ≡ fold (better (certificate_value problem.now.soc problem.now.limits)) (seen best)
         (module_why problem.now.soc place) }
     ensures value { HasValue problem.now.soc problem.now.limits result }
 {
@@ -85,7 +88,8 @@ fn consider_module(
 /// The candidates of the modules.
 fn consider_modules(problem: &Problem<'_>, best: Option<(u128, Why)>) -> Option<(u128, Why)>
     requires value { HasValue problem.now.soc problem.now.limits best }
-    ensures seen { seen result ≡ fold (better (certificate_value problem.now.soc problem.now.limits)) (seen best)
+    ensures seen { seen result
+        ≡ fold (better (certificate_value problem.now.soc problem.now.limits)) (seen best)
         (flat_map (module_why problem.now.soc) (places problem.now.soc)) }
     ensures value { HasValue problem.now.soc problem.now.limits result }
 {
@@ -104,7 +108,8 @@ fn consider_pair(
 ) -> Option<(u128, Why)>
     requires place { place < length problem.now.soc.modules }
     requires value { HasValue problem.now.soc problem.now.limits best }
-    ensures seen { seen result ≡ fold (better (certificate_value problem.now.soc problem.now.limits)) (seen best)
+    ensures seen { seen result
+        ≡ fold (better (certificate_value problem.now.soc problem.now.limits)) (seen best)
         (pair_why problem.now.soc place) }
     ensures value { HasValue problem.now.soc problem.now.limits result }
 {
@@ -123,7 +128,8 @@ fn consider_pair(
 /// The candidates of the modules with their parents.
 fn consider_pairs(problem: &Problem<'_>, best: Option<(u128, Why)>) -> Option<(u128, Why)>
     requires value { HasValue problem.now.soc problem.now.limits best }
-    ensures seen { seen result ≡ fold (better (certificate_value problem.now.soc problem.now.limits)) (seen best)
+    ensures seen { seen result
+        ≡ fold (better (certificate_value problem.now.soc problem.now.limits)) (seen best)
         (flat_map (pair_why problem.now.soc) (places problem.now.soc)) }
     ensures value { HasValue problem.now.soc problem.now.limits result }
 {
@@ -137,7 +143,8 @@ fn consider_pairs(problem: &Problem<'_>, best: Option<(u128, Why)>) -> Option<(u
 /// The candidate Area.
 fn consider_area(problem: &Problem<'_>, best: Option<(u128, Why)>) -> Option<(u128, Why)>
     requires value { HasValue problem.now.soc problem.now.limits best }
-    ensures seen { seen result ≡ better (certificate_value problem.now.soc problem.now.limits) (seen best) OfArea }
+    ensures seen { seen result
+        ≡ better (certificate_value problem.now.soc problem.now.limits) (seen best) OfArea }
     ensures value { HasValue problem.now.soc problem.now.limits result }
 {
     better_known(
@@ -150,7 +157,8 @@ fn consider_area(problem: &Problem<'_>, best: Option<(u128, Why)>) -> Option<(u1
 /// The candidate Power, where the limits have a power.
 fn consider_power(problem: &Problem<'_>, best: Option<(u128, Why)>) -> Option<(u128, Why)>
     requires value { HasValue problem.now.soc problem.now.limits best }
-    ensures seen { seen result ≡ fold (better (certificate_value problem.now.soc problem.now.limits)) (seen best)
+    ensures seen { seen result
+        ≡ fold (better (certificate_value problem.now.soc problem.now.limits)) (seen best)
         (power_why problem.now.limits.power) }
     ensures value { HasValue problem.now.soc problem.now.limits result }
 {
@@ -170,9 +178,11 @@ fn consider_chain(
     chain: Option<Vec<TestId>>,
     best: Option<(u128, Why)>,
 ) -> Option<(u128, Why)>
-    requires chain { IfSome chain (λ v. Each (IsChainItem problem.now.soc problem.now.limits) v.items) }
+    requires chain { IfSome chain
+        (λ v. Each (IsChainItem problem.now.soc problem.now.limits) v.items) }
     requires value { HasValue problem.now.soc problem.now.limits best }
-    ensures seen { seen result ≡ fold (better (certificate_value problem.now.soc problem.now.limits)) (seen best)
+    ensures seen { seen result
+        ≡ fold (better (certificate_value problem.now.soc problem.now.limits)) (seen best)
         (chain_why (names_of chain)) }
     ensures value { HasValue problem.now.soc problem.now.limits result }
 {
@@ -187,7 +197,8 @@ fn consider_chain(
 
 /// The first candidate of greatest value, with its value.
 pub fn winner_of(problem: &Problem<'_>, chain: Option<Vec<TestId>>) -> Option<(u128, Why)>
-    requires chain { IfSome chain (λ v. Each (IsChainItem problem.now.soc problem.now.limits) v.items) }
+    requires chain { IfSome chain
+        (λ v. Each (IsChainItem problem.now.soc problem.now.limits) v.items) }
     ensures seen { seen result ≡ winner (certificate_value problem.now.soc problem.now.limits)
         (candidates problem.now.soc problem.now.limits (names_of chain)) }
     ensures value { HasValue problem.now.soc problem.now.limits result }

@@ -76,9 +76,12 @@ fn chain_to(
     requires within { last < length nodes.now }
     requires long { length sums.now ≡ length nodes.now }
     requires fall { SumsFall (node_values nodes.now) sums.now }
-    ensures { IfOk result (λ chain. (soc : SocValue) (limits : LimitsValue) (n : NodeValue) → AreNodes soc limits (node_values nodes.now) →
-        AreSums soc limits (node_values nodes.now) sums.now → slice_get (node_values nodes.now) last ≡ Some n →
-        (back : List TheTestId) × (chain.items ≡ reverse (n.id ∷ back)) × GoesBack soc limits n.id back) }
+    ensures { IfOk result (λ chain. (soc : SocValue) (limits : LimitsValue) (n : NodeValue) →
+        AreNodes soc limits (node_values nodes.now) →
+        AreSums soc limits (node_values nodes.now) sums.now →
+        slice_get (node_values nodes.now) last ≡ Some n →
+        (back : List TheTestId) × (chain.items ≡ reverse (n.id ∷ back))
+        × GoesBack soc limits n.id back) }
 {
     let mut chain = Vec::new(alloc);
     push(&mut chain, nodes[last].id)?;
@@ -100,8 +103,10 @@ fn best_chain(
 ) -> Result<Option<Vec<TestId>>, NoMemory>
     requires long { length sums.now ≡ length nodes.now }
     requires fall { SumsFall (node_values nodes.now) sums.now }
-    ensures { IfOk result (λ chain. (soc : SocValue) (limits : LimitsValue) → AreNodes soc limits (node_values nodes.now) →
-        AreSums soc limits (node_values nodes.now) sums.now → IsPrintedChain soc limits (names_of chain)) }
+    ensures { IfOk result (λ chain. (soc : SocValue) (limits : LimitsValue) →
+        AreNodes soc limits (node_values nodes.now) →
+        AreSums soc limits (node_values nodes.now) sums.now →
+        IsPrintedChain soc limits (names_of chain)) }
 {
     let Some(last) = last_test(nodes, sums) else {
         return Ok(None);
@@ -116,10 +121,12 @@ fn best_chain(
 /// until none does. None comes exactly where no live test precedes another one. No such list of at least two tests has a
 /// greater sum than the chain.
 pub fn printed_chain(alloc: Global, problem: &Problem<'_>) -> Result<Option<Vec<TestId>>, NoMemory>
-    ensures printed { IfOk result (λ chain. IsPrintedChain problem.now.soc problem.now.limits (names_of chain)) }
+    ensures printed { IfOk result
+        (λ chain. IsPrintedChain problem.now.soc problem.now.limits (names_of chain)) }
     ensures keeps { IfOk result (λ chain. IfSome chain (λ tests.
         Each (IsChainItem problem.now.soc problem.now.limits) tests.items)) }
-    ensures greatest { IfOk result (λ chain. IsGreatestChain problem.now.soc problem.now.limits (names_of chain)) }
+    ensures greatest { IfOk result
+        (λ chain. IsGreatestChain problem.now.soc problem.now.limits (names_of chain)) }
 {
     // opened for what it keeps
     let _ = &problem.limits;

@@ -26,7 +26,8 @@ fn tam_place(soc: &Soc, number: u64) -> Option<usize>
     requires { IsSoundChip (soc_value soc.now) }
     ensures some { IfSome result (λ place. (module_place (soc_value soc.now) number ≡ Some place)
         × (place < length (soc_value soc.now).modules)) }
-    ensures exact { is_some result ≡ passes (has_tam_at (soc_value soc.now)) (module_place (soc_value soc.now) number) }
+    ensures exact { is_some result
+        ≡ passes (has_tam_at (soc_value soc.now)) (module_place (soc_value soc.now) number) }
 {
     match place_of(soc, number) {
         None => None,
@@ -44,7 +45,9 @@ fn tam_place(soc: &Soc, number: u64) -> Option<usize>
 fn tam_time_of(soc: &Soc, number: u64, wires: u64) -> u64
     requires sound { IsSoundChip (soc_value soc.now) }
     requires some_wire { 1 ≤ wires }
-    ensures time { result ≡ on (module_place (soc_value soc.now) number) (λ place. lower_tam_time (soc_value soc.now) place wires) }
+    ensures time { result
+        ≡ on (module_place (soc_value soc.now) number)
+        (λ place. lower_tam_time (soc_value soc.now) place wires) }
     ensures small { result ≤ 10 ^ 18 }
 {
     match place_of(soc, number) {
@@ -57,8 +60,10 @@ fn tam_time_of(soc: &Soc, number: u64, wires: u64) -> u64
 pub fn forced_sum(soc: &Soc, modules: &[u64], wires: u64) -> u128
     requires sound { IsSoundChip (soc_value soc.now) }
     requires some_wire { 1 ≤ wires }
-    ensures { result ≡ sum_by (λ m. on (module_place (soc_value soc.now) m) (λ place. lower_tam_time (soc_value soc.now) place wires))
-        modules.now }
+    ensures { result
+        ≡ sum_by
+        (λ m. on (module_place (soc_value soc.now) m)
+        (λ place. lower_tam_time (soc_value soc.now) place wires)) modules.now }
 {
     let mut sum = 0u128;
     for number in modules {
@@ -83,10 +88,12 @@ fn take_entry(
     requires place { place < length modules.now }
     requires room { length marks.old ≡ MODULES_MOST }
     requires least { least ≤ limits.now.wires + 1 }
-    requires so_far { IsForcedSoFar (soc_value soc.now) limits.now.wires claimed (take place modules.now) marks.old least }
+    requires so_far { IsForcedSoFar (soc_value soc.now) limits.now.wires claimed
+        (take place modules.now) marks.old least }
     ensures kept { IfSome result (λ next. (m : ℕ) → slice_get modules.now place ≡ Some m →
         IsForcedItem (soc_value soc.now) limits.now.wires claimed (take place modules.now) m
-        × IsForcedSoFar (soc_value soc.now) limits.now.wires claimed (take (place + 1) modules.now) marks.new next) }
+        × IsForcedSoFar (soc_value soc.now) limits.now.wires claimed
+        (take (place + 1) modules.now) marks.new next) }
     ensures few { IfSome result (λ next. next ≤ limits.now.wires + 1) }
     ensures breach { IfNone result ((m : ℕ) → slice_get modules.now place ≡ Some m →
         IsForcedItem (soc_value soc.now) limits.now.wires claimed (take place modules.now) m → ⊥) }
@@ -115,7 +122,8 @@ pub fn forced_breach(
     requires sound { IsSoundChip (soc_value soc.now) }
     requires limits { IsSoundLimits (soc_value soc.now) (limits_value limits.now) }
     requires room { length marks.old ≡ MODULES_MOST }
-    ensures { IsBreachPlace (IsForcedItem (soc_value soc.now) limits.now.wires claimed) modules.now result }
+    ensures { IsBreachPlace (IsForcedItem (soc_value soc.now) limits.now.wires claimed) modules.now
+        result }
 {
     marks.fill(false);
     let mut least = limits.wires + 1;
@@ -139,7 +147,8 @@ pub fn check_forced(
     requires sound { IsSoundChip (soc_value soc.now) }
     requires limits { IsSoundLimits (soc_value soc.now) (limits_value limits.now) }
     requires room { length marks.old ≡ MODULES_MOST }
-    ensures { IsCheck (soc_value soc.now) (limits_value limits.now) claimed (OfForced modules.now) result }
+    ensures { IsCheck (soc_value soc.now) (limits_value limits.now) claimed (OfForced modules.now)
+        result }
 {
     match forced_breach(soc, limits, claimed, modules, marks) {
         Some(place) => Err(BoundFault::BadList { place }),

@@ -26,7 +26,9 @@ fn need_or_zero(problem: &Problem<'_>, claimed: u64, place: usize) -> u64
 
 /// The needs of all modules by their places.
 fn needs_of(alloc: Global, problem: &Problem<'_>, claimed: u64) -> Result<Vec<u64>, NoMemory>
-    ensures { IfOk result (λ v. v.items ≡ map (need_or_zero problem.now.soc problem.now.limits.wires claimed) (places problem.now.soc)) }
+    ensures { IfOk result (λ v. v.items
+        ≡ map (need_or_zero problem.now.soc problem.now.limits.wires claimed)
+        (places problem.now.soc)) }
 {
     let mut needs = Vec::new(alloc);
     for place in 0..problem.soc.modules.len() {
@@ -44,7 +46,8 @@ fn push_with_need(
 ) -> Result<(), NoMemory>
     requires sound { IsSoundChip (soc_value soc.now) }
     requires long { length needs.now ≡ length (soc_value soc.now).modules }
-    ensures { OnOk result (order.new.items ≡ order.old.items ++ of_need (soc_value soc.now) needs.now needed) }
+    ensures { OnOk result
+        (order.new.items ≡ order.old.items ++ of_need (soc_value soc.now) needs.now needed) }
 {
     for place in 0..needs.len() {
         if needs[place] != needed {
@@ -57,7 +60,8 @@ fn push_with_need(
 
 /// The numbers of the modules with a test over the wires, by need, greatest first, and then by place.
 fn forced_order(alloc: Global, problem: &Problem<'_>, claimed: u64) -> Result<Vec<u64>, NoMemory>
-    ensures { IfOk result (λ v. v.items ≡ by_need problem.now.soc problem.now.limits.wires claimed) }
+    ensures { IfOk result
+        (λ v. v.items ≡ by_need problem.now.soc problem.now.limits.wires claimed) }
 {
     let needs = needs_of(alloc, problem, claimed)?;
     let mut order = Vec::new(alloc);

@@ -81,7 +81,8 @@ impl BoundScratch {
 
 /// A certificate whose list keeps its rule is accepted where its value is at least the claim.
 fn enough(claimed: u64, shown: u128) -> Result<(), BoundFault>
-    ensures { result ≡ (if nat_lt shown claimed then Err (BoundFault.Less claimed shown) else Ok tt) }
+    ensures { result
+        ≡ (if nat_lt shown claimed then Err (BoundFault.Less claimed shown) else Ok tt) }
 {
     if shown < u128::from(claimed) {
         return Err(BoundFault::Less { claimed, shown });
@@ -93,7 +94,8 @@ fn enough(claimed: u64, shown: u128) -> Result<(), BoundFault>
 fn check_module(soc: &Soc, limits: &Limits, module: u64, claimed: u64) -> Result<(), BoundFault>
     requires sound { IsSoundChip (soc_value soc.now) }
     requires limits { IsSoundLimits (soc_value soc.now) (limits_value limits.now) }
-    ensures { IsCheck (soc_value soc.now) (limits_value limits.now) claimed (OfModule «module») result }
+    ensures { IsCheck (soc_value soc.now) (limits_value limits.now) claimed (OfModule «module»)
+        result }
 {
     match place_of(soc, module) {
         None => Err(BoundFault::BadList { place: 0 }),
@@ -105,7 +107,8 @@ fn check_module(soc: &Soc, limits: &Limits, module: u64, claimed: u64) -> Result
 fn check_pair(soc: &Soc, limits: &Limits, module: u64, claimed: u64) -> Result<(), BoundFault>
     requires sound { IsSoundChip (soc_value soc.now) }
     requires limits { IsSoundLimits (soc_value soc.now) (limits_value limits.now) }
-    ensures { IsCheck (soc_value soc.now) (limits_value limits.now) claimed (OfPair «module») result }
+    ensures { IsCheck (soc_value soc.now) (limits_value limits.now) claimed (OfPair «module»)
+        result }
 {
     match place_of(soc, module) {
         None => Err(BoundFault::BadList { place: 0 }),
@@ -151,7 +154,8 @@ fn check_why(
 ) -> Result<(), BoundFault>
     requires sound { IsSoundChip (soc_value soc.now) }
     requires limits { IsSoundLimits (soc_value soc.now) (limits_value limits.now) }
-    ensures { IsCheck (soc_value soc.now) (limits_value limits.now) claimed (why_value why.now) result }
+    ensures { IsCheck (soc_value soc.now) (limits_value limits.now) claimed (why_value why.now)
+        result }
 {
     match why {
         Why::Module { module } => check_module(soc, limits, *module, claimed),
@@ -175,11 +179,14 @@ pub fn check_bound(
 ) -> Result<(), BoundFault>
     requires sound { IsSoundChip (soc_value soc.now) }
     requires limits { IsSoundLimits (soc_value soc.now) (limits_value limits.now) }
-    ensures accepted { OnOk result (IsAccepted (soc_value soc.now) (limits_value limits.now) (bound_value bound.now)) }
-    ensures fault { IfErr result (λ f. IsCertificateFault (soc_value soc.now) (limits_value limits.now) (bound_value bound.now)
-        (certificate_fault f)) }
-    ensures exact { IsAccepted (soc_value soc.now) (limits_value limits.now) (bound_value bound.now) → result ≡ Ok tt }
-    ensures bound { OnOk result (IsBound (soc_value soc.now) (limits_value limits.now) bound.now.cycles) }
+    ensures accepted { OnOk result
+        (IsAccepted (soc_value soc.now) (limits_value limits.now) (bound_value bound.now)) }
+    ensures fault { IfErr result (λ f. IsCertificateFault (soc_value soc.now)
+        (limits_value limits.now) (bound_value bound.now) (certificate_fault f)) }
+    ensures exact { IsAccepted (soc_value soc.now) (limits_value limits.now)
+        (bound_value bound.now) → result ≡ Ok tt }
+    ensures bound { OnOk result
+        (IsBound (soc_value soc.now) (limits_value limits.now) bound.now.cycles) }
 {
     check_why(soc, limits, &bound.why, bound.cycles, room)
 }

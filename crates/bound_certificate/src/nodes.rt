@@ -32,7 +32,8 @@ fn push_live(
 ) -> Result<(), NoMemory>
     requires wires { 1 ≤ wires }
     requires works { IsMeasurable (module_value «module».now) }
-    ensures { OnOk result (node_values nodes.new.items ≡ node_values nodes.old.items ++ nodes_in wires (module_value «module».now)) }
+    ensures { OnOk result (node_values nodes.new.items
+        ≡ node_values nodes.old.items ++ nodes_in wires (module_value «module».now)) }
 {
     let lower = LowerTimes::new(module);
     for test in &module.tests {
@@ -55,7 +56,8 @@ fn push_live(
 fn live_nodes(alloc: Global, soc: &Soc, wires: u64) -> Result<Vec<PrecedenceNode>, NoMemory>
     requires wires { 1 ≤ wires }
     requires sound { IsSoundChip (soc_value soc.now) }
-    ensures { IfOk result (λ nodes. node_values nodes.items ≡ nodes_of_tests (soc_value soc.now) wires) }
+    ensures { IfOk result
+        (λ nodes. node_values nodes.items ≡ nodes_of_tests (soc_value soc.now) wires) }
 {
     let mut nodes = Vec::new(alloc);
     for module in soc.modules.values() {
@@ -67,8 +69,10 @@ fn live_nodes(alloc: Global, soc: &Soc, wires: u64) -> Result<Vec<PrecedenceNode
 /// Gives each node the tests before it, which stand in these lists.
 fn link_nodes(nodes: &mut Vec<PrecedenceNode>, lists: &mut Vec<Neighbours>)
     requires { length lists.old.items ≡ length nodes.old.items }
-    ensures fixed { fixed_parts (node_values nodes.new.items) ≡ fixed_parts (node_values nodes.old.items) }
-    ensures before { (i : ℕ) → i < length nodes.old.items → before_at nodes.new.items i ≡ tests_at lists.old.items i }
+    ensures fixed { fixed_parts (node_values nodes.new.items)
+        ≡ fixed_parts (node_values nodes.old.items) }
+    ensures before { (i : ℕ) → i < length nodes.old.items →
+        before_at nodes.new.items i ≡ tests_at lists.old.items i }
 {
     for place in 0..nodes.len() {
         mem::swap(&mut nodes[place].before, &mut lists[place].tests);
@@ -77,7 +81,8 @@ fn link_nodes(nodes: &mut Vec<PrecedenceNode>, lists: &mut Vec<Neighbours>)
 
 /// The live tests in the order of the chip, with their precedences.
 pub fn nodes_of(alloc: Global, problem: &Problem<'_>) -> Result<Vec<PrecedenceNode>, NoMemory>
-    ensures { IfOk result (λ nodes. AreNodes problem.now.soc problem.now.limits (node_values nodes.items)) }
+    ensures { IfOk result
+        (λ nodes. AreNodes problem.now.soc problem.now.limits (node_values nodes.items)) }
 {
     let mut nodes = live_nodes(alloc, problem.soc, problem.limits.wires)?;
     let mut before = all_before(alloc, nodes.len(), &problem.resolved.precedences)?;

@@ -49,7 +49,8 @@ pub fn power_value(soc: &Soc, limits: &Limits, places: &mut IndexMap<TestId, usi
     requires sound { IsSoundChip (soc_value soc.now) }
     requires limits { IsSoundLimits (soc_value soc.now) (limits_value limits.now) }
     requires room { TESTS_MOST ≤ index_map_len places.old + spare places.old }
-    ensures value { result ≡ power_bound (soc_value soc.now) (limits_value limits.now) limits.now.power }
+    ensures value { result
+        ≡ power_bound (soc_value soc.now) (limits_value limits.now) limits.now.power }
     ensures room { TESTS_MOST ≤ index_map_len places.new + spare places.new }
 {
     if limits.profiles.len() > TESTS_MOST as usize {

@@ -49,7 +49,8 @@ fn is_stated(pairs: &Pairs, first: TestId, second: TestId) -> bool
 
 /// Replaces what is noted of a pair, where something is.
 fn replace_note(pairs: &mut Pairs, first: TestId, second: TestId, stated: bool)
-    ensures replaced { (q : TestId × TestId) → noted pairs.new q ≡ replaced (first, second) stated q (noted pairs.old q) }
+    ensures replaced { (q : TestId × TestId) →
+        noted pairs.new q ≡ replaced (first, second) stated q (noted pairs.old q) }
     ensures count { index_map_len pairs.new ≡ index_map_len pairs.old }
     ensures room { spare pairs.new ≡ spare pairs.old }
 {
@@ -62,7 +63,8 @@ fn replace_note(pairs: &mut Pairs, first: TestId, second: TestId, stated: bool)
 fn add_note(pairs: &mut Pairs, first: TestId, second: TestId)
     requires room { 0 < spare pairs.old }
     requires new { noted pairs.old (first, second) ≡ None }
-    ensures noted { (q : TestId × TestId) → noted pairs.new q ≡ with_note (first, second) false q (noted pairs.old q) }
+    ensures noted { (q : TestId × TestId) →
+        noted pairs.new q ≡ with_note (first, second) false q (noted pairs.old q) }
     ensures count { index_map_len pairs.new ≡ index_map_len pairs.old + 1 }
     ensures room { spare pairs.old ≤ spare pairs.new + 1 }
 {
@@ -79,9 +81,11 @@ fn is_noted(pairs: &Pairs, first: TestId, second: TestId) -> bool
 /// Notes false of a pair.
 fn put_pair(pairs: &mut Pairs, first: TestId, second: TestId)
     requires { 0 < spare pairs.old }
-    ensures noted { (q : TestId × TestId) → noted pairs.new q ≡ with_note (first, second) false q (noted pairs.old q) }
+    ensures noted { (q : TestId × TestId) →
+        noted pairs.new q ≡ with_note (first, second) false q (noted pairs.old q) }
     ensures few { index_map_len pairs.new ≤ index_map_len pairs.old + 1 }
-    ensures room { index_map_len pairs.old + spare pairs.old ≤ index_map_len pairs.new + spare pairs.new }
+    ensures room { index_map_len pairs.old + spare pairs.old
+        ≤ index_map_len pairs.new + spare pairs.new }
 {
     if is_noted(pairs, first, second) {
         replace_note(pairs, first, second, false);
@@ -103,7 +107,8 @@ fn pair_count(tests: &[TestId]) -> usize
 /// Writes the pairs of neighbours at the front of a list, with false for each.
 fn list_pairs(tests: &[TestId], pairs: &mut Pairs)
     requires { TESTS_MOST ≤ index_map_len pairs.old + spare pairs.old }
-    ensures listed { (a b : TestId) → AreNeighbours tests.now a b → noted pairs.new (a, b) ≡ Some false }
+    ensures listed { (a b : TestId) → AreNeighbours tests.now a b →
+        noted pairs.new (a, b) ≡ Some false }
     ensures room { TESTS_MOST ≤ index_map_len pairs.new + spare pairs.new }
 {
     pairs.clear();
@@ -114,7 +119,8 @@ fn list_pairs(tests: &[TestId], pairs: &mut Pairs)
 
 /// Notes the pairs that are precedences.
 fn note_stated(before: &[(TestId, TestId)], pairs: &mut Pairs)
-    ensures stated { (q : TestId × TestId) → noted pairs.new q ≡ option_map (λ b. b || is_among before.now q) (noted pairs.old q) }
+    ensures stated { (q : TestId × TestId) →
+        noted pairs.new q ≡ option_map (λ b. b || is_among before.now q) (noted pairs.old q) }
     ensures count { index_map_len pairs.new ≡ index_map_len pairs.old }
     ensures room { spare pairs.new ≡ spare pairs.old }
 {
@@ -139,8 +145,8 @@ fn stands_behind(before: &[(TestId, TestId)], tests: &[TestId], place: usize, pa
     requires later { 1 ≤ place }
     requires within { place < length tests.now }
     requires stated { AreStated before.now tests.now pairs.now }
-    ensures { (a b : TestId) → slice_get tests.now (place - 1) ≡ Some a → slice_get tests.now place ≡ Some b →
-        IsTrue result ↔ Contains before.now (a, b) }
+    ensures { (a b : TestId) → slice_get tests.now (place - 1) ≡ Some a →
+        slice_get tests.now place ≡ Some b → IsTrue result ↔ Contains before.now (a, b) }
 {
     let first = tests[place - 1];
     let second = tests[place];
@@ -158,8 +164,10 @@ fn keeps_chain(soc: &Soc, limits: &Limits, tests: &[TestId], place: usize, pairs
     requires place { place < length tests.now }
     requires stated { AreStated limits.now.before.items tests.now pairs.now }
     ensures { (id : TestId) → slice_get tests.now place ≡ Some id →
-        MatchBool result (IsChainItem (soc_value soc.now) (limits_value limits.now) (take place tests.now) id)
-        (IsChainItem (soc_value soc.now) (limits_value limits.now) (take place tests.now) id → ⊥) }
+        MatchBool result
+        (IsChainItem (soc_value soc.now) (limits_value limits.now) (take place tests.now) id)
+        (IsChainItem (soc_value soc.now) (limits_value limits.now) (take place tests.now) id →
+        ⊥) }
 {
     if live_time(soc, tests[place], limits.wires).is_none() {
         return false;
@@ -172,7 +180,8 @@ fn chain_breach(soc: &Soc, limits: &Limits, tests: &[TestId], pairs: &Pairs) -> 
     requires sound { IsSoundChip (soc_value soc.now) }
     requires limits { IsSoundLimits (soc_value soc.now) (limits_value limits.now) }
     requires stated { AreStated limits.now.before.items tests.now pairs.now }
-    ensures { IsBreachPlace (IsChainItem (soc_value soc.now) (limits_value limits.now)) tests.now result }
+    ensures { IsBreachPlace (IsChainItem (soc_value soc.now) (limits_value limits.now)) tests.now
+        result }
 {
     for place in 0..tests.len() {
         if !keeps_chain(soc, limits, tests, place, pairs) {
@@ -193,7 +202,8 @@ pub fn check_chain(
     requires sound { IsSoundChip (soc_value soc.now) }
     requires limits { IsSoundLimits (soc_value soc.now) (limits_value limits.now) }
     requires room { TESTS_MOST ≤ index_map_len pairs.old + spare pairs.old }
-    ensures check { IsCheck (soc_value soc.now) (limits_value limits.now) claimed (OfChain tests.now) result }
+    ensures check { IsCheck (soc_value soc.now) (limits_value limits.now) claimed
+        (OfChain tests.now) result }
     ensures room { TESTS_MOST ≤ index_map_len pairs.new + spare pairs.new }
 {
     fill_pairs(&limits.before, tests, pairs);

@@ -31,8 +31,10 @@ fn greatest_sum(nodes: &[PrecedenceNode], sums: &mut Vec<Sum>, test: usize) -> u
     requires long { length sums.old.items ≡ length nodes.now }
     requires under_way { IsUnderWay (node_values nodes.now) sums.old.items test }
     ensures goes_on { GoOn (node_values nodes.now) sums.old.items sums.new.items }
-    ensures sum { (soc : SocValue) (limits : LimitsValue) → AreNodes soc limits (node_values nodes.now) →
-        AreRight soc limits (node_values nodes.now) sums.old.items → HasSum soc limits (node_values nodes.now) test result }
+    ensures sum { (soc : SocValue) (limits : LimitsValue) →
+        AreNodes soc limits (node_values nodes.now) →
+        AreRight soc limits (node_values nodes.now) sums.old.items →
+        HasSum soc limits (node_values nodes.now) test result }
 {
     match sums[test] {
         Sum::Known { sum } => return sum,
@@ -64,7 +66,8 @@ fn unknown_sums(alloc: Global, count: usize) -> Result<Vec<Sum>, NoMemory>
 /// The greatest sums of all tests.
 pub fn greatest_sums(alloc: Global, nodes: &[PrecedenceNode]) -> Result<Vec<u128>, NoMemory>
     requires { AreAcyclic (node_values nodes.now) }
-    ensures { IfOk result (λ sums. (soc : SocValue) (limits : LimitsValue) → AreNodes soc limits (node_values nodes.now) →
+    ensures { IfOk result (λ sums. (soc : SocValue) (limits : LimitsValue) →
+        AreNodes soc limits (node_values nodes.now) →
         AreSums soc limits (node_values nodes.now) sums.items) }
 {
     let mut known = unknown_sums(alloc, nodes.len())?;

@@ -67,7 +67,8 @@ fn answer_both<H: Shelf>(alloc: Global, both: Both, name: &str, shelf: &mut H) -
     ensures faults_never_fall { H.faults shelf.old ≤ H.faults shelf.new }
     ensures follows { Follows (with_proof name.now both.soc both.limits) (H.held shelf.old)
         (H.faults shelf.old) (H.faults shelf.new) result }
-    ensures by_loads { LoadsGive H.is_load (with_proof name.now both.soc both.limits) shelf.old result shelf.new }
+    ensures by_loads { LoadsGive H.is_load (with_proof name.now both.soc both.limits) shelf.old
+        result shelf.new }
 {
     match load_file(alloc, FileKind::Proof, name, shelf) {
         Ok(bytes) => {
@@ -92,8 +93,8 @@ fn decide_bound<H: Shelf>(
 ) -> Verdict
     ensures held_stays { H.held shelf.new ≡ H.held shelf.old }
     ensures faults_never_fall { H.faults shelf.old ≤ H.faults shelf.new }
-    ensures follows { Follows (procedure_of (Bound soc.now limits.now proof.now)) (H.held shelf.old) (H.faults shelf.old)
-        (H.faults shelf.new) result }
+    ensures follows { Follows (procedure_of (Bound soc.now limits.now proof.now)) (H.held shelf.old)
+        (H.faults shelf.old) (H.faults shelf.new) result }
     ensures by_loads { LoadsGive H.is_load (procedure_of (Bound soc.now limits.now proof.now))
         shelf.old result shelf.new }
 {
@@ -107,12 +108,14 @@ fn decide_bound<H: Shelf>(
 pub(crate) fn decide<H: Shelf>(alloc: Global, words: &[String], shelf: &mut H) -> Verdict
     ensures held_stays { H.held shelf.new ≡ H.held shelf.old }
     ensures faults_never_fall { H.faults shelf.old ≤ H.faults shelf.new }
-    ensures decides { Decides (asked procedure_of (asked_command (map string_bytes words.now))) (H.held shelf.old) (H.faults shelf.old)
-        (H.faults shelf.new) result }
+    ensures decides { Decides (asked procedure_of (asked_command (map string_bytes words.now)))
+        (H.held shelf.old) (H.faults shelf.old) (H.faults shelf.new) result }
     ensures by_loads { LoadsGive H.is_load
         (asked procedure_of (asked_command (map string_bytes words.now)))
         shelf.old result shelf.new }
-    ensures untouched { (IsCommand (asked procedure_of (asked_command (map string_bytes words.now))) → ⊥) → shelf.new ≡ shelf.old }
+    ensures untouched { (IsCommand
+        (asked procedure_of (asked_command (map string_bytes words.now))) → ⊥) →
+        shelf.new ≡ shelf.old }
 {
     match command_of(words) {
         Some(Command::Bound { soc, limits, proof }) => {

@@ -35,7 +35,8 @@ fn reads_back(alloc: Global, found: &FoundProof) -> Result<bool, NoMemory>
 /// Whether a proof is accepted.
 fn is_accepted(alloc: Global, problem: &Problem<'_>, proof: &Proof) -> Result<bool, NoMemory>
     requires proof { MayBeSaid (proof_value proof.now) }
-    ensures { IfOk result (λ yes. yes ≡ true → IsAccepted problem.now.soc problem.now.limits (proof_value proof.now)) }
+    ensures { IfOk result (λ yes. yes ≡ true →
+        IsAccepted problem.now.soc problem.now.limits (proof_value proof.now)) }
 {
     let mut room = ProofRoom::over(alloc, problem, proof)?;
     let accepted = check_proof(&mut room).is_ok();
@@ -53,7 +54,8 @@ fn is_kept(
     nodes: u64,
 ) -> Result<bool, NoMemory>
     requires some { 1 ≤ cycles }
-    ensures { IfOk result (λ yes. yes ≡ true → IsProofText problem.now.soc problem.now.limits cycles nodes (proof_text found.now)) }
+    ensures { IfOk result (λ yes. yes ≡ true →
+        IsProofText problem.now.soc problem.now.limits cycles nodes (proof_text found.now)) }
 {
     let proof = &found.proof;
     if proof.claimed > cycles {
@@ -81,7 +83,8 @@ pub(crate) fn accepted_text(
     nodes: u64,
 ) -> Result<Option<Vec<u8>>, NoMemory>
     requires some { 1 ≤ cycles }
-    ensures { IfOk result (λ text. IfSome text (λ t. IsProofText problem.now.soc problem.now.limits cycles nodes t.items)) }
+    ensures { IfOk result (λ text. IfSome text
+        (λ t. IsProofText problem.now.soc problem.now.limits cycles nodes t.items)) }
 {
     let kept = is_kept(alloc, problem, &found, cycles, nodes);
     let text = found.into_text();

@@ -25,7 +25,8 @@ fn text_of<T: Sink>(
     progress: &mut T,
 ) -> Result<Vec<u8>, NoMemory>
     requires some { 1 ≤ nodes }
-    ensures text { IfOk result (λ text. IsProofText all.now.soc all.now.limits all.now.plan.cycles nodes text.items) }
+    ensures text { IfOk result
+        (λ text. IsProofText all.now.soc all.now.limits all.now.plan.cycles nodes text.items) }
     ensures faults_never_fall { T.faults progress.old ≤ T.faults progress.new }
     ensures quiet { nodes < REPORTED_FROM → progress.new ≡ progress.old }
     ensures reported { MayReport nodes (T.written progress.old) (T.written progress.new) }
@@ -48,8 +49,8 @@ fn decide_prove<H: Shelf, T: Sink>(
     ensures held_stays { H.held shelf.new ≡ H.held shelf.old }
     ensures faults_never_fall { H.faults shelf.old ≤ H.faults shelf.new }
     ensures progress_faults_never_fall { T.faults progress.old ≤ T.faults progress.new }
-    ensures follows { Follows (procedure_of (Prove soc.now limits.now plan.now nodes)) (H.held shelf.old) (H.faults shelf.old)
-        (H.faults shelf.new) result }
+    ensures follows { Follows (procedure_of (Prove soc.now limits.now plan.now nodes))
+        (H.held shelf.old) (H.faults shelf.old) (H.faults shelf.new) result }
     ensures by_loads { LoadsGive H.is_load (procedure_of (Prove soc.now limits.now plan.now nodes))
         shelf.old result shelf.new }
     ensures quiet { nodes < REPORTED_FROM → progress.new ≡ progress.old }
@@ -75,14 +76,18 @@ pub(crate) fn decide<H: Shelf, T: Sink>(
     ensures held_stays { H.held shelf.new ≡ H.held shelf.old }
     ensures faults_never_fall { H.faults shelf.old ≤ H.faults shelf.new }
     ensures progress_faults_never_fall { T.faults progress.old ≤ T.faults progress.new }
-    ensures decides { Decides (asked procedure_of (asked_command (map string_bytes words.now))) (H.held shelf.old) (H.faults shelf.old)
-        (H.faults shelf.new) result }
+    ensures decides { Decides (asked procedure_of (asked_command (map string_bytes words.now)))
+        (H.held shelf.old) (H.faults shelf.old) (H.faults shelf.new) result }
     ensures by_loads { LoadsGive H.is_load
         (asked procedure_of (asked_command (map string_bytes words.now)))
         shelf.old result shelf.new }
-    ensures untouched { (IsCommand (asked procedure_of (asked_command (map string_bytes words.now))) → ⊥) → shelf.new ≡ shelf.old }
-    ensures quiet { IsQuiet (asked_command (map string_bytes words.now)) → progress.new ≡ progress.old }
-    ensures reported { MayReportOf (asked_command (map string_bytes words.now)) (T.written progress.old) (T.written progress.new) }
+    ensures untouched { (IsCommand
+        (asked procedure_of (asked_command (map string_bytes words.now))) → ⊥) →
+        shelf.new ≡ shelf.old }
+    ensures quiet { IsQuiet (asked_command (map string_bytes words.now)) →
+        progress.new ≡ progress.old }
+    ensures reported { MayReportOf (asked_command (map string_bytes words.now))
+        (T.written progress.old) (T.written progress.new) }
 {
     match command_of(words) {
         Some(

@@ -76,7 +76,8 @@ fn searched<T: Sink>(
 /// The text of the proof that claims nothing, for a problem.
 fn nothing_for(alloc: Global, problem: &Problem<'_>) -> Result<Vec<u8>, NoMemory>
     ensures { (cycles nodes : ℕ) → 1 ≤ nodes →
-        IfOk result (λ text. IsProofText problem.now.soc problem.now.limits cycles nodes text.items) }
+        IfOk result
+        (λ text. IsProofText problem.now.soc problem.now.limits cycles nodes text.items) }
 {
     // opened, so that its limits are known to be sound
     let _ = &problem.limits;
@@ -92,7 +93,8 @@ pub fn proved_text<T: Sink>(
     progress: &mut T,
 ) -> Result<Vec<u8>, NoMemory>
     requires some { 1 ≤ nodes }
-    ensures text { IfOk result (λ text. IsProofText problem.now.soc problem.now.limits cycles nodes text.items) }
+    ensures text { IfOk result
+        (λ text. IsProofText problem.now.soc problem.now.limits cycles nodes text.items) }
     ensures faults_never_fall { T.faults progress.old ≤ T.faults progress.new }
     ensures quiet { nodes < REPORTED_FROM → progress.new ≡ progress.old }
     ensures reported { MayReport nodes (T.written progress.old) (T.written progress.new) }
@@ -122,7 +124,8 @@ pub fn proved<T: Sink>(
     requires chip { IsSoundChip (soc_value soc.now) }
     requires limits { IsSoundLimits (soc_value soc.now) (limits_value limits.now) }
     requires some { 1 ≤ nodes }
-    ensures text { IfOk result (λ text. IsProofText (soc_value soc.now) (limits_value limits.now) cycles nodes text.items) }
+    ensures text { IfOk result (λ text. IsProofText (soc_value soc.now) (limits_value limits.now)
+        cycles nodes text.items) }
     ensures faults_never_fall { T.faults progress.old ≤ T.faults progress.new }
     ensures quiet { nodes < REPORTED_FROM → progress.new ≡ progress.old }
     ensures reported { MayReport nodes (T.written progress.old) (T.written progress.new) }

@@ -28,20 +28,23 @@ pub fn prove_bound<H: Shelf, K: Sink, T: Sink>(
     progress: &mut T,
 ) -> Status
     ensures held_stays { H.held shelf.new ≡ H.held shelf.old }
-    ensures faults_never_fall { (H.faults shelf.old ≤ H.faults shelf.new) × (K.faults out.old ≤ K.faults out.new)
-        × (T.faults progress.old ≤ T.faults progress.new) }
+    ensures faults_never_fall { (H.faults shelf.old ≤ H.faults shelf.new)
+        × (K.faults out.old ≤ K.faults out.new) × (T.faults progress.old ≤ T.faults progress.new) }
 
     // What every top call promises of its answer.
-    ensures answers { IsTopCall H.is_load K.is_put false (asked procedure_of (command_of (map string_bytes words.now)))
-        (H.held shelf.old) shelf.old shelf.new (H.faults shelf.old) (H.faults shelf.new) out.old out.new (K.faults out.old)
+    ensures answers { IsTopCall H.is_load K.is_put false
+        (asked procedure_of (command_of (map string_bytes words.now))) (H.held shelf.old) shelf.old
+        shelf.new (H.faults shelf.old) (H.faults shelf.new) out.old out.new (K.faults out.old)
         (K.faults out.new) (K.written out.old) result (K.written out.new) }
-    ensures quiet { IsQuiet (command_of (map string_bytes words.now)) → progress.new ≡ progress.old }
-    ensures reported { MayReportOf (command_of (map string_bytes words.now)) (T.written progress.old) (T.written progress.new) }
+    ensures quiet { IsQuiet (command_of (map string_bytes words.now)) →
+        progress.new ≡ progress.old }
+    ensures reported { MayReportOf (command_of (map string_bytes words.now))
+        (T.written progress.old) (T.written progress.new) }
 
     // The headline: the proof that is written is accepted for chip and limits of the held files, no good plan has fewer cycles than
     // it claims, that claim is at most the cycles of the plan, and its text reads back as that proof.
-    ensures headline { Headline (command_of (map string_bytes words.now)) (H.held shelf.old) (K.written out.old) result
-        (K.written out.new) }
+    ensures headline { Headline (command_of (map string_bytes words.now)) (H.held shelf.old)
+        (K.written out.old) result (K.written out.new) }
 {
     files_say_one_thing();
     accepted_proofs_are_bounds();

@@ -65,8 +65,10 @@ fn place_in(profiles: &Profiles<'_>, id: TestId) -> Option<usize>
 /// What a test draws over its first `length` cycles, added up: by its profile, or its own power at every cycle.
 fn test_energy(profiles: &Profiles<'_>, id: TestId, own: u64, length: u64) -> u128
     requires places { HasPlaces profiles.now }
-    requires steps { (i : ℕ) (p : Profile) → slice_get profiles.now.list.now i ≡ Some p → Grow 0 p.steps.items }
-    ensures { result ≡ sum_below (powers_of id own (map profile_value profiles.now.list.now)) length }
+    requires steps { (i : ℕ) (p : Profile) → slice_get profiles.now.list.now i ≡ Some p →
+        Grow 0 p.steps.items }
+    ensures { result
+        ≡ sum_below (powers_of id own (map profile_value profiles.now.list.now)) length }
 {
     match place_in(profiles, id) {
         Some(place) => steps_energy(&profiles.list[place].steps, length),
@@ -86,9 +88,12 @@ fn module_energy(
     requires fitting { IsFitting sizes.now }
     requires work { works_by sizes.now tests.now ≤ 10 ^ 18 }
     requires places { HasPlaces profiles.now }
-    requires steps { (i : ℕ) (p : Profile) → slice_get profiles.now.list.now i ≡ Some p → Grow 0 p.steps.items }
-    requires fits { energies sizes.now number (map profile_value profiles.now.list.now) wires tests.now ≤ 10 ^ 27 }
-    ensures { result ≡ energies sizes.now number (map profile_value profiles.now.list.now) wires tests.now }
+    requires steps { (i : ℕ) (p : Profile) → slice_get profiles.now.list.now i ≡ Some p →
+        Grow 0 p.steps.items }
+    requires fits { energies sizes.now number (map profile_value profiles.now.list.now) wires
+        tests.now ≤ 10 ^ 27 }
+    ensures { result
+        ≡ energies sizes.now number (map profile_value profiles.now.list.now) wires tests.now }
 {
     let mut sum = 0u128;
     for test in tests {
@@ -108,7 +113,8 @@ fn module_energy(
 fn total_energy(soc: &Soc, limits: &Limits, places: Option<&IndexMap<TestId, usize>>) -> u128
     requires sound { IsSoundChip (soc_value soc.now) }
     requires limits { IsSoundLimits (soc_value soc.now) (limits_value limits.now) }
-    requires places { IfSome places (λ found. FindProfiles found.now.entries limits.now.profiles.items) }
+    requires places { IfSome places
+        (λ found. FindProfiles found.now.entries limits.now.profiles.items) }
     requires fits { least_energy (soc_value soc.now) (limits_value limits.now) ≤ 10 ^ 27 }
     ensures { result ≡ least_energy (soc_value soc.now) (limits_value limits.now) }
 {
@@ -134,8 +140,10 @@ fn total_energy(soc: &Soc, limits: &Limits, places: Option<&IndexMap<TestId, usi
 fn bound_with(soc: &Soc, limits: &Limits, places: Option<&IndexMap<TestId, usize>>) -> u64
     requires sound { IsSoundChip (soc_value soc.now) }
     requires limits { IsSoundLimits (soc_value soc.now) (limits_value limits.now) }
-    requires places { IfSome places (λ found. FindProfiles found.now.entries limits.now.profiles.items) }
-    ensures quotient { result ≡ power_bound (soc_value soc.now) (limits_value limits.now) limits.now.power }
+    requires places { IfSome places
+        (λ found. FindProfiles found.now.entries limits.now.profiles.items) }
+    ensures quotient { result
+        ≡ power_bound (soc_value soc.now) (limits_value limits.now) limits.now.power }
     ensures small { result ≤ 10 ^ 18 }
     ensures bound { IsBound (soc_value soc.now) (limits_value limits.now) result }
 {
@@ -152,7 +160,8 @@ fn bound_with(soc: &Soc, limits: &Limits, places: Option<&IndexMap<TestId, usize
 pub fn power_bound(soc: &Soc, limits: &Limits) -> u64
     requires sound { IsSoundChip (soc_value soc.now) }
     requires limits { IsSoundLimits (soc_value soc.now) (limits_value limits.now) }
-    ensures quotient { result ≡ power_bound (soc_value soc.now) (limits_value limits.now) limits.now.power }
+    ensures quotient { result
+        ≡ power_bound (soc_value soc.now) (limits_value limits.now) limits.now.power }
     ensures small { result ≤ 10 ^ 18 }
     ensures bound { IsBound (soc_value soc.now) (limits_value limits.now) result }
 {
@@ -165,7 +174,8 @@ pub fn power_bound_with(soc: &Soc, limits: &Limits, places: &IndexMap<TestId, us
     requires sound { IsSoundChip (soc_value soc.now) }
     requires limits { IsSoundLimits (soc_value soc.now) (limits_value limits.now) }
     requires places { FindProfiles places.now.entries limits.now.profiles.items }
-    ensures quotient { result ≡ power_bound (soc_value soc.now) (limits_value limits.now) limits.now.power }
+    ensures quotient { result
+        ≡ power_bound (soc_value soc.now) (limits_value limits.now) limits.now.power }
     ensures small { result ≤ 10 ^ 18 }
     ensures bound { IsBound (soc_value soc.now) (limits_value limits.now) result }
 {

@@ -48,9 +48,10 @@ pub fn lower_time(module: &Module, test: &Test, width: u64) -> u64
     requires work { test_work (module_value «module».now) test.now ≤ 10 ^ 18 }
     ensures time { result ≡ lower_time (module_value «module».now) test.now width }
     ensures small { result ≤ 10 ^ 18 }
-    ensures over_wires { (chains : List ChainValue) → test.now.tam ≡ true → 1 ≤ length chains → length chains ≤ width →
-        IsProper (module_value «module».now) test.now.scan chains →
-        result ≤ length (operations_of (module_value «module».now) test.now
+    ensures over_wires { (chains : List ChainValue) → test.now.tam ≡ true → 1 ≤ length chains →
+        length chains ≤ width → IsProper (module_value «module».now) test.now.scan chains →
+        result
+        ≤ length (operations_of (module_value «module».now) test.now
         (chain_cells (module_value «module».now) test.now.scan chains)) }
     ensures self_tests { test.now.tam ≡ false → result ≡ test.now.patterns }
 {
@@ -65,7 +66,8 @@ pub fn module_bound(soc: &Soc, place: usize, wires: u64) -> u64
     requires some_wire { 1 ≤ wires }
     ensures sum { result ≡ module_bound (soc_value soc.now) wires place }
     ensures small { result ≤ 10 ^ 18 }
-    ensures bound { (limits : LimitsValue) → limits.wires ≡ wires → IsBound (soc_value soc.now) limits result }
+    ensures bound { (limits : LimitsValue) → limits.wires ≡ wires →
+        IsBound (soc_value soc.now) limits result }
 {
     LowerTimes::of(soc, place).of_all(wires)
 }
@@ -79,7 +81,8 @@ pub fn pair_bound(soc: &Soc, place: usize, wires: u64) -> Option<u64>
     ensures sum { result ≡ option_map (λ parent. pair_bound (soc_value soc.now) wires parent place)
         (parent_place (soc_value soc.now).modules place) }
     ensures small { IfSome result (λ n. n ≤ 2 * 10 ^ 18) }
-    ensures bound { IfSome result (λ n. (limits : LimitsValue) → limits.wires ≡ wires → IsBound (soc_value soc.now) limits n) }
+    ensures bound { IfSome result (λ n. (limits : LimitsValue) → limits.wires ≡ wires →
+        IsBound (soc_value soc.now) limits n) }
 {
     pair_bound_with(soc, place, parent(soc, place), wires)
 }
@@ -93,7 +96,8 @@ pub fn pair_bound_with(soc: &Soc, place: usize, parent: Option<usize>, wires: u6
     ensures sum { result ≡ option_map (λ parent. pair_bound (soc_value soc.now) wires parent place)
         (parent_place (soc_value soc.now).modules place) }
     ensures small { IfSome result (λ n. n ≤ 2 * 10 ^ 18) }
-    ensures bound { IfSome result (λ n. (limits : LimitsValue) → limits.wires ≡ wires → IsBound (soc_value soc.now) limits n) }
+    ensures bound { IfSome result (λ n. (limits : LimitsValue) → limits.wires ≡ wires →
+        IsBound (soc_value soc.now) limits n) }
 {
     match parent {
         Some(above) => Some(module_bound(soc, above, wires) + module_bound(soc, place, wires)),

@@ -62,7 +62,8 @@ impl<'a> LowerTimes<'a> {
     /// The cycles that the live tests of the module take at least on `width` wires, one after another.
     pub fn of_all(&self, width: u64) -> u64
         requires some_wire { 1 ≤ width }
-        ensures sum { (soc : SocValue) (place : ℕ) → slice_get soc.modules place ≡ Some self.now → result ≡ module_bound soc width place }
+        ensures sum { (soc : SocValue) (place : ℕ) → slice_get soc.modules place ≡ Some self.now →
+            result ≡ module_bound soc width place }
         ensures small { result ≤ 10 ^ 18 }
     {
         self.sizes.times(&self.module.tests, width)
@@ -71,7 +72,8 @@ impl<'a> LowerTimes<'a> {
     /// The cycles that the live tests over the wires of the module take at least on `width` wires, one after another.
     pub fn over_wires(&self, width: u64) -> u64
         requires some_wire { 1 ≤ width }
-        ensures sum { (soc : SocValue) (place : ℕ) → slice_get soc.modules place ≡ Some self.now → result ≡ lower_tam_time soc place width }
+        ensures sum { (soc : SocValue) (place : ℕ) → slice_get soc.modules place ≡ Some self.now →
+            result ≡ lower_tam_time soc place width }
         ensures small { result ≤ 10 ^ 18 }
     {
         self.sizes.tam_times(&self.module.tests, width)

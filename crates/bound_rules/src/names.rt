@@ -29,7 +29,8 @@ fn live_test(tests: &[Test], number: u64) -> Option<Test>
 pub fn live_time(soc: &Soc, id: TestId, wires: u64) -> Option<u64>
     requires sound { IsSoundChip (soc_value soc.now) }
     requires some_wire { 1 ≤ wires }
-    ensures time { result ≡ option_map (lower wires) (find (is_called id) (live_tests (soc_value soc.now))) }
+    ensures time { result
+        ≡ option_map (lower wires) (find (is_called id) (live_tests (soc_value soc.now))) }
     ensures small { IfSome result (λ n. n ≤ 10 ^ 18) }
 {
     let place = place_of(soc, id.module)?;
@@ -44,7 +45,8 @@ pub fn chain_bound(soc: &Soc, tests: &[TestId], wires: u64) -> u128
     requires sound { IsSoundChip (soc_value soc.now) }
     requires some_wire { 1 ≤ wires }
     ensures sum { result ≡ sum_by (lower_of_id (soc_value soc.now) wires) tests.now }
-    ensures bound { (limits : LimitsValue) → limits.wires ≡ wires → Each (IsChainItem (soc_value soc.now) limits) tests.now →
+    ensures bound { (limits : LimitsValue) → limits.wires ≡ wires →
+        Each (IsChainItem (soc_value soc.now) limits) tests.now →
         IsBound (soc_value soc.now) limits result }
 {
     let mut sum = 0u128;

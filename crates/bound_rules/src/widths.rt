@@ -63,7 +63,8 @@ pub fn need(soc: &Soc, place: usize, wires: u64, claimed: u64) -> u64
 fn least_area(sizes: &Sizes, tests: &[Test]) -> u64
     requires fitting { IsFitting sizes.now }
     requires work { works_by sizes.now tests.now ≤ 10 ^ 18 }
-    ensures { (wires : ℕ) → 1 ≤ wires → result ≡ least_from_one (λ w. w * tam_times_by sizes.now w tests.now) wires }
+    ensures { (wires : ℕ) → 1 ≤ wires →
+        result ≡ least_from_one (λ w. w * tam_times_by sizes.now w tests.now) wires }
 {
     sizes.tam_times(tests, 1)
 }
@@ -81,7 +82,9 @@ fn module_area(soc: &Soc, place: usize) -> u64
 /// The least areas of all modules together.
 fn total_area(soc: &Soc) -> u64
     requires { IsSoundChip (soc_value soc.now) }
-    ensures sum { (wires : ℕ) → 1 ≤ wires → result ≡ sum_below (module_area (soc_value soc.now) wires)
+    ensures sum { (wires : ℕ) → 1 ≤ wires →
+        result
+        ≡ sum_below (module_area (soc_value soc.now) wires)
         (length (soc_value soc.now).modules) }
     ensures small { result ≤ 10 ^ 18 }
 {
@@ -99,7 +102,8 @@ pub fn area_bound(soc: &Soc, wires: u64) -> u64
     requires some_wire { 1 ≤ wires }
     ensures quotient { result ≡ area_bound (soc_value soc.now) wires }
     ensures small { result ≤ 10 ^ 18 }
-    ensures bound { (limits : LimitsValue) → limits.wires ≡ wires → IsBound (soc_value soc.now) limits result }
+    ensures bound { (limits : LimitsValue) → limits.wires ≡ wires →
+        IsBound (soc_value soc.now) limits result }
 {
     quotient_up(u128::from(total_area(soc)), wires)
 }

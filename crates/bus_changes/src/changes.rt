@@ -37,10 +37,12 @@ pub fn change_buses(
 ) -> bool
     requires buses { AreBuses buses.old }
     requires times { AreTimesOn buses.old times.now }
-    requires taken { All (IsTaken (length buses.old.widths.items) (length buses.old.slots.items)) taken.old.items }
+    requires taken { All (IsTaken (length buses.old.widths.items) (length buses.old.slots.items))
+        taken.old.items }
     ensures buses { AreBuses buses.new }
     ensures alike { AreAlike buses.old buses.new }
-    ensures taken { All (IsTaken (length buses.old.widths.items) (length buses.old.slots.items)) taken.new.items }
+    ensures taken { All (IsTaken (length buses.old.widths.items) (length buses.old.slots.items))
+        taken.new.items }
 {
     let modules = buses.slots.len();
     if modules == 0 {

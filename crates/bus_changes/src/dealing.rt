@@ -71,11 +71,13 @@ fn take_all(
     requires times { AreTimesOn buses.old times.now }
     requires first { first < length buses.old.slots.items }
     requires count { count ≤ length taken.old.items }
-    requires taken { All (IsTaken (length buses.old.widths.items) (length buses.old.slots.items)) taken.old.items }
+    requires taken { All (IsTaken (length buses.old.widths.items) (length buses.old.slots.items))
+        taken.old.items }
     ensures buses { AreBuses buses.new }
     ensures alike { AreAlike buses.old buses.new }
     ensures long { length taken.new.items ≡ length taken.old.items }
-    ensures taken { All (IsTaken (length buses.new.widths.items) (length buses.new.slots.items)) taken.new.items }
+    ensures taken { All (IsTaken (length buses.new.widths.items) (length buses.new.slots.items))
+        taken.new.items }
 {
     let modules = buses.slots.len();
     let mut any = first;
@@ -134,7 +136,8 @@ fn deal_all(
     requires buses { AreBuses buses.old }
     requires times { AreTimesOn buses.old times.now }
     requires count { count ≤ length taken.now }
-    requires taken { All (IsTaken (length buses.old.widths.items) (length buses.old.slots.items)) taken.now }
+    requires taken { All (IsTaken (length buses.old.widths.items) (length buses.old.slots.items))
+        taken.now }
     ensures buses { AreBuses buses.new }
     ensures alike { AreAlike buses.old buses.new }
 {
@@ -152,7 +155,8 @@ fn release_left(times: &Times, buses: &mut Buses, taken: &[DealtModule], count: 
     requires buses { AreBuses buses.old }
     requires times { AreTimesOn buses.old times.now }
     requires count { count ≤ length taken.now }
-    requires taken { All (IsTaken (length buses.old.widths.items) (length buses.old.slots.items)) taken.now }
+    requires taken { All (IsTaken (length buses.old.widths.items) (length buses.old.slots.items))
+        taken.now }
     ensures buses { AreBuses buses.new }
     ensures alike { AreAlike buses.old buses.new }
 {
@@ -175,10 +179,12 @@ pub(crate) fn deal_modules(
     requires buses { AreBuses buses.old }
     requires times { AreTimesOn buses.old times.now }
     requires first { first < length buses.old.slots.items }
-    requires taken { All (IsTaken (length buses.old.widths.items) (length buses.old.slots.items)) taken.old.items }
+    requires taken { All (IsTaken (length buses.old.widths.items) (length buses.old.slots.items))
+        taken.old.items }
     ensures buses { AreBuses buses.new }
     ensures alike { AreAlike buses.old buses.new }
-    ensures taken { All (IsTaken (length buses.old.widths.items) (length buses.old.slots.items)) taken.new.items }
+    ensures taken { All (IsTaken (length buses.old.widths.items) (length buses.old.slots.items))
+        taken.new.items }
 {
     let count = (2 + draws.below(DEALT_MOST - 1)).min(taken.len());
     take_all(times, buses, taken, count, first, draws);

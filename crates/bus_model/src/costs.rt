@@ -48,7 +48,8 @@ pub fn cost(table: &WidthTable, arch: &Arch) -> u64
 pub fn bottleneck(table: &WidthTable, arch: &Arch) -> Option<usize>
     requires { IsSoundArch table.now (arch_value arch.now) }
     ensures { MatchOption result (arch_value arch.now ≡ [])
-        (λ at. (at < length (arch_value arch.now)) × (at ≡ bottleneck_of table.now (arch_value arch.now))) }
+        (λ at. (at < length (arch_value arch.now))
+        × (at ≡ bottleneck_of table.now (arch_value arch.now))) }
 {
     let count = arch.buses.len();
     if count == 0 {

@@ -15,8 +15,10 @@ use width_table::WidthTable;
 
 /// The place of each module with a live test over the wires, behind its time on one wire in cycles.
 fn start_keys(alloc: Global, table: &WidthTable) -> Result<Vec<(Reverse<u64>, usize)>, NoMemory>
-    ensures times { IfOk result (λ keys. All (λ key. key.0.0 ≡ time_of table.now key.1 1) keys.items) }
-    ensures once { IfOk result (λ keys. (p : ℕ) → times_listed p (map (λ key. key.1) keys.items) ≡ due table.now p) }
+    ensures times { IfOk result
+        (λ keys. All (λ key. key.0.0 ≡ time_of table.now key.1 1) keys.items) }
+    ensures once { IfOk result
+        (λ keys. (p : ℕ) → times_listed p (map (λ key. key.1) keys.items) ≡ due table.now p) }
 {
     let mut keys = Vec::new(alloc);
     // the call tells what every table keeps
@@ -63,7 +65,8 @@ fn one_wire_buses(alloc: Global, places: &[usize]) -> Result<Arch, NoMemory>
 fn put_on_quickest(table: &WidthTable, arch: &mut Arch, place: usize) -> Result<(), NoMemory>
     requires buses { All (IsSoundBus table.now) (arch_value arch.old) }
     requires some { 0 < length (arch_value arch.old) }
-    ensures value { OnOk result (arch_value arch.new ≡ placed_on_quickest table.now (arch_value arch.old) place) }
+    ensures value { OnOk result
+        (arch_value arch.new ≡ placed_on_quickest table.now (arch_value arch.old) place) }
     ensures within { quickest_of table.now (arch_value arch.old) < length (arch_value arch.old) }
 {
     let at = quickest(table, arch);
@@ -107,7 +110,8 @@ fn crowded_start(alloc: Global, table: &WidthTable, order: &[usize]) -> Result<A
 /// alone.
 pub fn start_solution(alloc: Global, table: &WidthTable) -> Result<Arch, NoMemory>
     ensures start { IfOk result (λ arch. IsStart table.now (arch_value arch)) }
-    ensures only { IfOk result (λ arch. (other : List BusValue) → IsStart table.now other → other ≡ arch_value arch) }
+    ensures only { IfOk result
+        (λ arch. (other : List BusValue) → IsStart table.now other → other ≡ arch_value arch) }
     ensures sound { IfOk result (λ arch. IsSoundArch table.now (arch_value arch)) }
 {
     let order = start_order(alloc, table)?;

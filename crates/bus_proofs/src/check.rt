@@ -43,7 +43,8 @@ impl<'a> Model for ProofRoom<'a> {
 
     ghost Value = { RoomValue };
 
-    ghost view = { λ r. record { chip = chip_of r.basis; limits = limits_of r.basis; proof = proof_of r.basis } };
+    ghost view = { λ r. record
+        { chip = chip_of r.basis; limits = limits_of r.basis; proof = proof_of r.basis } };
 
     ghost invariant = { λ r. IsProofRoom r.basis r.case r.leaf r.turns.items };
 }
@@ -71,8 +72,8 @@ fn uses_of(node: &Node) -> usize
 
 /// The most lists or modules that a leaf names.
 fn most_uses(nodes: &[Node]) -> usize
-    ensures { (place : ℕ) (leaf : LeafValue) → slice_get (map node_value nodes.now) place ≡ Some (OfLeaf leaf) →
-        named_in leaf ≤ result }
+    ensures { (place : ℕ) (leaf : LeafValue) →
+        slice_get (map node_value nodes.now) place ≡ Some (OfLeaf leaf) → named_in leaf ≤ result }
 {
     let mut most = 0;
     for place in 0..nodes.len() {
@@ -172,8 +173,10 @@ fn check_in(
     turns: &mut [OpenSplit],
 ) -> Result<(), ProofFault>
     requires room { IsProofRoom basis.now case.old leaf.old turns.old }
-    ensures accepted { OnOk result (IsAccepted (chip_of basis.now) (limits_of basis.now) (proof_of basis.now)) }
-    ensures fault { IfErr result (IsProofFault (chip_of basis.now) (limits_of basis.now) (proof_of basis.now)) }
+    ensures accepted { OnOk result
+        (IsAccepted (chip_of basis.now) (limits_of basis.now) (proof_of basis.now)) }
+    ensures fault { IfErr result
+        (IsProofFault (chip_of basis.now) (limits_of basis.now) (proof_of basis.now)) }
     ensures room { IsProofRoom basis.now case.new leaf.new turns.new }
 {
     if basis.lists.kept < basis.proof.lists.len() {

@@ -22,7 +22,8 @@ fn know_rank(case: &mut CaseRoom, rank: usize)
     ensures room { HasCase case.new }
     ensures further { IsFurther case.old case.new }
     ensures below { rank < length case.new.widths.intervals.items }
-    ensures case { (c : Case) → IsCaseOf case.old c → IsCaseOf case.new (with_rank case.old.widths.wires c rank) }
+    ensures case { (c : Case) → IsCaseOf case.old c →
+        IsCaseOf case.new (with_rank case.old.widths.wires c rank) }
 {
     if rank < known_ranks(&case.widths) {
         return;
@@ -49,8 +50,10 @@ pub(crate) fn is_wide(case: &mut CaseRoom, rank: u64, width: u64) -> bool
     requires most { case.old.widths.most ≡ 256 }
     ensures room { HasCase case.new }
     ensures further { IsFurther case.old case.new }
-    ensures yes { result ≡ true → (c : Case) → IsCaseOf case.old c → IsWideNow case.new case.old.widths.wires c rank width }
-    ensures no { result ≡ false → (c : Case) → IsCaseOf case.old c → IsWide case.old.widths.wires c rank width → ⊥ }
+    ensures yes { result ≡ true → (c : Case) → IsCaseOf case.old c →
+        IsWideNow case.new case.old.widths.wires c rank width }
+    ensures no { result ≡ false → (c : Case) → IsCaseOf case.old c →
+        IsWide case.old.widths.wires c rank width → ⊥ }
 {
     if (known_ranks(&case.widths) as u64) < rank {
         return false;
@@ -119,8 +122,10 @@ fn are_ranks(known: usize, rank: u64, twins: &[u64]) -> bool
 
 /// Whether two intervals are one fixed width.
 fn are_fixed(one: Interval, other: Interval) -> bool
-    ensures yes { result ≡ true → (one.low ≡ one.high) × (other.low ≡ one.low) × (other.high ≡ one.high) }
-    ensures no { result ≡ false → one.low ≡ one.high → other.low ≡ one.low → other.high ≡ one.high → ⊥ }
+    ensures yes { result ≡ true →
+        (one.low ≡ one.high) × (other.low ≡ one.low) × (other.high ≡ one.high) }
+    ensures no { result ≡ false → one.low ≡ one.high → other.low ≡ one.low → other.high ≡ one.high →
+        ⊥ }
 {
     if one.low != one.high {
         return false;
@@ -138,8 +143,10 @@ fn is_twin(basis: &Basis<'_>, case: &CaseRoom, rank: usize, twin: usize) -> bool
     requires known { (c : Case) × IsCaseOf case.now c }
     requires rank { rank < length case.now.widths.intervals.items }
     requires twin { twin < length case.now.widths.intervals.items }
-    ensures yes { result ≡ true → (c : Case) → IsCaseOf case.now c → AreTwins (chip_of basis.now) c rank twin }
-    ensures no { result ≡ false → (c : Case) → IsCaseOf case.now c → AreTwins (chip_of basis.now) c rank twin → ⊥ }
+    ensures yes { result ≡ true → (c : Case) → IsCaseOf case.now c →
+        AreTwins (chip_of basis.now) c rank twin }
+    ensures no { result ≡ false → (c : Case) → IsCaseOf case.now c →
+        AreTwins (chip_of basis.now) c rank twin → ⊥ }
 {
     let one = interval_at(&case.widths, rank);
     let other = interval_at(&case.widths, twin);
@@ -157,8 +164,10 @@ fn are_twins(basis: &Basis<'_>, case: &CaseRoom, rank: usize, twins: &[u64]) -> 
     requires known { (c : Case) × IsCaseOf case.now c }
     requires rank { rank < length case.now.widths.intervals.items }
     requires twins { All (λ q. q < length case.now.widths.intervals.items) twins.now }
-    ensures yes { result ≡ true → (c : Case) → IsCaseOf case.now c → All (AreTwins (chip_of basis.now) c rank) twins.now }
-    ensures no { result ≡ false → (c : Case) → IsCaseOf case.now c → All (AreTwins (chip_of basis.now) c rank) twins.now → ⊥ }
+    ensures yes { result ≡ true → (c : Case) → IsCaseOf case.now c →
+        All (AreTwins (chip_of basis.now) c rank) twins.now }
+    ensures no { result ≡ false → (c : Case) → IsCaseOf case.now c →
+        All (AreTwins (chip_of basis.now) c rank) twins.now → ⊥ }
 {
     for at in 0..twins.len() {
         let twin = twins[at];
@@ -180,8 +189,10 @@ pub(crate) fn placed(
     requires basis { IsBasis basis.now }
     requires room { IsRoomFor basis.now case.now }
     requires known { (c : Case) × IsCaseOf case.now c }
-    ensures some { IfSome result (λ place. (c : Case) → IsCaseOf case.now c → IsPlaceAt (chip_of basis.now) c number rank twins.now place) }
-    ensures none { result ≡ None → (c : Case) → IsCaseOf case.now c → IsPlace (chip_of basis.now) c number rank twins.now → ⊥ }
+    ensures some { IfSome result (λ place. (c : Case) → IsCaseOf case.now c →
+        IsPlaceAt (chip_of basis.now) c number rank twins.now place) }
+    ensures none { result ≡ None → (c : Case) → IsCaseOf case.now c →
+        IsPlace (chip_of basis.now) c number rank twins.now → ⊥ }
 {
     let Some(place) = wired_place(basis, number) else {
         return None;

@@ -50,7 +50,8 @@ fn node_at(proof: &Proof, place: usize) -> &Node
 /// Notes a split whose first branch begins.
 fn note_turn(turns: &mut [OpenSplit], at: WalkSpot, mark: Mark)
     requires { at.depth < length turns.old }
-    ensures { turns.new ≡ slice_set turns.old at.depth (record { mark = mark; node = at.node; second = false }) }
+    ensures { turns.new
+        ≡ slice_set turns.old at.depth (record { mark = mark; node = at.node; second = false }) }
 {
     turns[at.depth] = OpenSplit {
         mark,
@@ -74,9 +75,12 @@ fn begin_wide(
     requires depth { at.depth < length turns.old }
     ensures further { IsFurther case.old case.new }
     ensures room { result ≡ true → IsRoomFor basis.now case.new }
-    ensures begun { result ≡ true → (root : CaseRoom) (c : Case) → IsFurther root case.old → IsCaseOf case.old c →
-        IsBegun basis.now root turns.old turns.new at.depth case.old case.new c (OfWide rank width) }
-    ensures broken { result ≡ false → (c : Case) → IsCaseOf case.old c → IsWide (limits_of basis.now).wires c rank width → ⊥ }
+    ensures begun { result ≡ true → (root : CaseRoom) (c : Case) → IsFurther root case.old →
+        IsCaseOf case.old c →
+        IsBegun basis.now root turns.old turns.new at.depth case.old case.new c
+        (OfWide rank width) }
+    ensures broken { result ≡ false → (c : Case) → IsCaseOf case.old c →
+        IsWide (limits_of basis.now).wires c rank width → ⊥ }
 {
     if !is_wide(case, rank, width) {
         return false;
@@ -104,9 +108,12 @@ fn begin_place(
     requires depth { at.depth < length turns.old }
     ensures further { IsFurther case.old case.new }
     ensures room { result ≡ true → IsRoomFor basis.now case.new }
-    ensures begun { result ≡ true → (root : CaseRoom) (c : Case) → IsFurther root case.old → IsCaseOf case.old c →
-        IsBegun basis.now root turns.old turns.new at.depth case.old case.new c (OfPlace number rank twins.now) }
-    ensures broken { result ≡ false → (c : Case) → IsCaseOf case.old c → IsPlace (chip_of basis.now) c number rank twins.now → ⊥ }
+    ensures begun { result ≡ true → (root : CaseRoom) (c : Case) → IsFurther root case.old →
+        IsCaseOf case.old c →
+        IsBegun basis.now root turns.old turns.new at.depth case.old case.new c
+        (OfPlace number rank twins.now) }
+    ensures broken { result ≡ false → (c : Case) → IsCaseOf case.old c →
+        IsPlace (chip_of basis.now) c number rank twins.now → ⊥ }
 {
     match placed(basis, case, number, rank, twins) {
         Some(place) => {
@@ -123,7 +130,8 @@ fn begin_place(
 fn off_ranks(basis: &Basis<'_>, case: &mut CaseRoom, number: u64, rank: u64, twins: &[u64])
     requires basis { IsBasis basis.now }
     requires room { IsRoomFor basis.now case.old }
-    requires forked { (c : Case) × IsCaseOf case.old c × IsForked (chip_of basis.now) c (OfPlace number rank twins.now) }
+    requires forked { (c : Case) × IsCaseOf case.old c
+        × IsForked (chip_of basis.now) c (OfPlace number rank twins.now) }
     ensures room { IsRoomFor basis.now case.new }
     ensures further { IsFurther case.old case.new }
     ensures case { (c : Case) → IsCaseOf case.old c →
@@ -139,11 +147,12 @@ fn off_ranks(basis: &Basis<'_>, case: &mut CaseRoom, number: u64, rank: u64, twi
 fn take_second(basis: &Basis<'_>, case: &mut CaseRoom, node: &Node)
     requires basis { IsBasis basis.now }
     requires room { IsRoomFor basis.now case.old }
-    requires forked { (c : Case) × (split : SplitValue) × IsCaseOf case.old c × IsForked (chip_of basis.now) c split ×
-        (node_value node.now ≡ OfSplit split) }
+    requires forked { (c : Case) × (split : SplitValue) × IsCaseOf case.old c
+        × IsForked (chip_of basis.now) c split × (node_value node.now ≡ OfSplit split) }
     ensures room { IsRoomFor basis.now case.new }
     ensures further { IsFurther case.old case.new }
-    ensures case { (c : Case) (split : SplitValue) → IsCaseOf case.old c → node_value node.now ≡ OfSplit split →
+    ensures case { (c : Case) (split : SplitValue) → IsCaseOf case.old c →
+        node_value node.now ≡ OfSplit split →
         IsCaseOf case.new (branch_later (chip_of basis.now) c split) }
 {
     match node {
@@ -163,10 +172,12 @@ fn begin_second(basis: &Basis<'_>, case: &mut CaseRoom, turns: &mut [OpenSplit],
     requires room { last < length turns.old }
     requires turn { (root : CaseRoom) × (before : CaseRoom) × (c : Case) × (split : SplitValue) ×
         IsTurn basis.now root case.old (turn_at turns.old last) before c split }
-    ensures turns { turns.new ≡ slice_set turns.old last (record (turn_at turns.old last) { second = true }) }
+    ensures turns { turns.new
+        ≡ slice_set turns.old last (record (turn_at turns.old last) { second = true }) }
     ensures room { IsRoomFor basis.now case.new }
     ensures second { (root before : CaseRoom) (c : Case) (split : SplitValue) →
-        IsTurn basis.now root case.old (turn_at turns.old last) before c split → IsSecond basis.now before case.new c split }
+        IsTurn basis.now root case.old (turn_at turns.old last) before c split →
+        IsSecond basis.now before case.new c split }
 {
     let turn = turns[last];
     turns[last].second = true;
@@ -209,8 +220,8 @@ fn next_branch(
 
 /// The answer to what was found at the leaf at a place.
 fn judge_answer(claimed: u64, place: usize, answer: LeafAnswer) -> Result<(), ProofFault>
-    ensures judged { (g : Basis) (done : ℕ) (c : Case) (leaf : LeafValue) → claimed ≡ claim_of g → IsLeafAnswer g done c leaf answer →
-        IsJudged g done place (in_case c (OfLeaf leaf)) result }
+    ensures judged { (g : Basis) (done : ℕ) (c : Case) (leaf : LeafValue) → claimed ≡ claim_of g →
+        IsLeafAnswer g done c leaf answer → IsJudged g done place (in_case c (OfLeaf leaf)) result }
     ensures broken { answer ≡ LeafAnswer.Broken → OnOk result ⊥ }
 {
     match answer {
@@ -240,7 +251,8 @@ fn judge_leaf(
     requires node { IsNodeAt basis.now place (OfLeaf (OfSum (weights_value weights.now))) }
     requires leaves { FitsLeaves basis.now leaf.old }
     ensures judged { (c : Case) → IsCaseOf case.now c →
-        IsJudged basis.now leaf.old.pack.work place (in_case c (OfLeaf (OfSum (weights_value weights.now)))) result }
+        IsJudged basis.now leaf.old.pack.work place
+        (in_case c (OfLeaf (OfSum (weights_value weights.now)))) result }
     ensures leaves { FitsLeaves basis.now leaf.new }
     ensures work { leaf.new.pack.work ≡ leaf.old.pack.work }
 {
@@ -264,10 +276,13 @@ fn judge_pack(
     requires node { IsNodeAt basis.now place (OfLeaf (OfPack (pricing_value pricing.now))) }
     requires leaves { FitsLeaves basis.now leaf.old }
     ensures judged { (c : Case) → IsCaseOf case.now c →
-        IsJudged basis.now leaf.old.pack.work place (in_case c (OfLeaf (OfPack (pricing_value pricing.now)))) result }
+        IsJudged basis.now leaf.old.pack.work place
+        (in_case c (OfLeaf (OfPack (pricing_value pricing.now)))) result }
     ensures leaves { FitsLeaves basis.now leaf.new }
-    ensures work { (c : Case) → IsCaseOf case.now c → OnOk result
-        (leaf.new.pack.work ≡ leaf.old.pack.work + node_work basis.now (in_case c (OfLeaf (OfPack (pricing_value pricing.now))))) }
+    ensures work { (c : Case) → IsCaseOf case.now c →
+        OnOk result (leaf.new.pack.work
+        ≡ leaf.old.pack.work
+        + node_work basis.now (in_case c (OfLeaf (OfPack (pricing_value pricing.now))))) }
 {
     let answer = check_pack(basis, case, pricing, leaf);
     judge_answer(basis.proof.claimed, place, answer)

@@ -112,8 +112,11 @@ fn push_found(text: &mut Vec<u8>, test: Option<PlacedTest>, cycles: u64) -> Resu
 
 /// Appends the lines of all starts.
 fn push_rows(text: &mut Vec<u8>, placed: &PlacedPlan<'_>) -> Result<(), NoMemory>
-    ensures { OnOk result (text.new.items ≡ text.old.items
-        ++ flat_map (start_row placed.now.plan.cycles (placed_tests placed.now.soc placed.now.plan)) placed.now.plan.starts) }
+    ensures { OnOk result (text.new.items
+        ≡ text.old.items
+        ++ flat_map
+        (start_row placed.now.plan.cycles (placed_tests placed.now.soc placed.now.plan))
+        placed.now.plan.starts) }
 {
     for (id, _) in &placed.plan.starts {
         push_found(text, placed.find(*id), placed.plan.cycles)?;
@@ -127,7 +130,8 @@ fn push_rows(text: &mut Vec<u8>, placed: &PlacedPlan<'_>) -> Result<(), NoMemory
 pub fn print_chart(alloc: Global, soc: &Soc, plan: &Plan) -> Result<Vec<u8>, NoMemory>
     requires sound { IsSoundChip (soc_value soc.now) }
     requires good { IsGoodAlone (soc_value soc.now) (plan_value plan.now) }
-    ensures { IfOk result (λ text. text.items ≡ chart_text (soc_value soc.now) (plan_value plan.now)) }
+    ensures { IfOk result
+        (λ text. text.items ≡ chart_text (soc_value soc.now) (plan_value plan.now)) }
 {
     let names = LiveTests::new(alloc, soc)?;
     let placed = Placed::new(alloc, soc, plan)?;
@@ -146,7 +150,8 @@ fn print_of(
     requires good { IsGoodAlone (soc_value soc.now) (plan_value plan.now) }
     requires names { names.now ≡ live_ids (soc_value soc.now) }
     requires placed { IsPlaced (soc_value soc.now) (plan_value plan.now) placed.now }
-    ensures { IfOk result (λ text. text.items ≡ chart_text (soc_value soc.now) (plan_value plan.now)) }
+    ensures { IfOk result
+        (λ text. text.items ≡ chart_text (soc_value soc.now) (plan_value plan.now)) }
 {
     let placed = PlacedPlan::new(soc, plan, names, placed);
     print_placed(alloc, &placed)

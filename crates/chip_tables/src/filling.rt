@@ -84,7 +84,8 @@ fn push_times(
     requires wires { wires ≤ times.now.wires }
     requires few_wires { wires ≤ 256 }
     requires live { IsTrue (is_live test.now) }
-    requires work { (m : ModuleValue) → slice_get times.now.chip.modules place ≡ Some m → test_work m test.now ≤ 10 ^ 18 }
+    requires work { (m : ModuleValue) → slice_get times.now.chip.modules place ≡ Some m →
+        test_work m test.now ≤ 10 ^ 18 }
 {
     for width in 1..wires + 1 {
         let cycles = times.test_time(place, test, width);

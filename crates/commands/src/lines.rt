@@ -62,7 +62,8 @@ pub fn limit_word(which: Which) -> &'static [u8]
 /// Appends a text.
 pub fn push_text(to: &mut Vec<u8>, text: &[u8]) -> Result<(), NoMemory>
     ensures text { OnOk result (to.new.items ≡ to.old.items ++ text.now) }
-    ensures plain { OnOk result (no_feed to.new.items ≡ (no_feed to.old.items && no_feed text.now)) }
+    ensures plain { OnOk result
+        (no_feed to.new.items ≡ (no_feed to.old.items && no_feed text.now)) }
 {
     extend(to, text)
 }
@@ -124,7 +125,8 @@ pub fn push_two(to: &mut Vec<u8>, a: u128, b: u128) -> Result<(), NoMemory>
 }
 
 fn push_certificate(to: &mut Vec<u8>, fault: &BoundFault) -> Result<(), NoMemory>
-    ensures text { OnOk result (to.new.items ≡ to.old.items ++ certificate_text (certificate_fault fault.now)) }
+    ensures text { OnOk result
+        (to.new.items ≡ to.old.items ++ certificate_text (certificate_fault fault.now)) }
     ensures plain { OnOk result (IsTrue (no_feed to.old.items) → IsTrue (no_feed to.new.items)) }
 {
     match fault {
@@ -163,7 +165,8 @@ fn keyword(fault: &PlanFault) -> &'static [u8]
 
 /// What a fault carries.
 fn push_carried(to: &mut Vec<u8>, fault: &PlanFault) -> Result<(), NoMemory>
-    ensures text { OnOk result (to.new.items ≡ to.old.items ++ carried_text (fault_value fault.now)) }
+    ensures text { OnOk result
+        (to.new.items ≡ to.old.items ++ carried_text (fault_value fault.now)) }
     ensures plain { OnOk result (IsTrue (no_feed to.old.items) → IsTrue (no_feed to.new.items)) }
 {
     match fault {
@@ -207,7 +210,8 @@ pub fn less_line(
     shown: u128,
 ) -> Result<Vec<u8>, NoMemory>
     requires { IsTrue (no_feed words.now) }
-    ensures text { IfOk result (λ text. text.items ≡ words.now ++ decimal place ++ codes " " ++ two_numbers claimed shown ++ codes "\n") }
+    ensures text { IfOk result (λ text. text.items
+        ≡ words.now ++ decimal place ++ codes " " ++ two_numbers claimed shown ++ codes "\n") }
     ensures line { IfOk result (λ text. IsTrue (is_line text.items)) }
 {
     let mut text = Vec::new(alloc);

@@ -84,7 +84,8 @@ impl Model for Accepted {
 
     ghost Value = { AcceptedValue };
 
-    ghost view = { λ a. record { soc = soc_value a.soc; limits = limits_value a.limits; plan = plan_value a.plan } };
+    ghost view = { λ a. record
+        { soc = soc_value a.soc; limits = limits_value a.limits; plan = plan_value a.plan } };
 
     ghost invariant = { λ a. IsAccepted a.soc a.limits a.resolved a.plan a.placed };
 }
@@ -188,7 +189,8 @@ pub fn load_file<H: Shelf>(
 ) -> Result<Vec<u8>, Verdict>
     ensures held_stays { H.held shelf.new ≡ H.held shelf.old }
     ensures faults_never_fall { H.faults shelf.old ≤ H.faults shelf.new }
-    ensures loads { LoadsBytes file name.now (H.held shelf.old) (H.faults shelf.old) (H.faults shelf.new) result }
+    ensures loads { LoadsBytes file name.now (H.held shelf.old) (H.faults shelf.old)
+        (H.faults shelf.new) result }
     ensures by_loads { LoadsFile H.is_load file name.now shelf.old result shelf.new }
 {
     let mut bytes = Vec::new(alloc);
@@ -205,7 +207,8 @@ pub fn load_chip<H: Shelf>(alloc: Global, name: &str, shelf: &mut H) -> Result<S
     ensures held_stays { H.held shelf.new ≡ H.held shelf.old }
     ensures faults_never_fall { H.faults shelf.old ≤ H.faults shelf.new }
     ensures sound { IfOk result (λ soc. IsSoundChip (soc_value soc)) }
-    ensures loads { LoadsChip name.now (H.held shelf.old) (H.faults shelf.old) (H.faults shelf.new) result }
+    ensures loads { LoadsChip name.now (H.held shelf.old) (H.faults shelf.old) (H.faults shelf.new)
+        result }
     ensures by_loads { LoadsSoc H.is_load name.now shelf.old result shelf.new }
 {
     let bytes = load_file(alloc, FileKind::Soc, name, shelf)?;
@@ -237,9 +240,12 @@ fn load_limits<H: Shelf>(
 ) -> Result<Bounds, Verdict>
     ensures held_stays { H.held shelf.new ≡ H.held shelf.old }
     ensures faults_never_fall { H.faults shelf.old ≤ H.faults shelf.new }
-    ensures sound { IfOk result (λ bounds. IsSoundLimits (soc_value soc.now) (limits_value bounds.limits)) }
-    ensures resolved { IfOk result (λ bounds. IsResolved (soc_value soc.now) bounds.limits bounds.resolved) }
-    ensures loads { LoadsLimits (soc_value soc.now) name.now (H.held shelf.old) (H.faults shelf.old) (H.faults shelf.new) result }
+    ensures sound { IfOk result
+        (λ bounds. IsSoundLimits (soc_value soc.now) (limits_value bounds.limits)) }
+    ensures resolved { IfOk result
+        (λ bounds. IsResolved (soc_value soc.now) bounds.limits bounds.resolved) }
+    ensures loads { LoadsLimits (soc_value soc.now) name.now (H.held shelf.old) (H.faults shelf.old)
+        (H.faults shelf.new) result }
     ensures by_loads { LoadsBounds H.is_load (soc_value soc.now)
         name.now shelf.old result shelf.new }
 {
@@ -297,10 +303,12 @@ fn load_accepted_plan<H: Shelf>(
 ) -> Result<PlanPlaces, Verdict>
     ensures held_stays { H.held shelf.new ≡ H.held shelf.old }
     ensures faults_never_fall { H.faults shelf.old ≤ H.faults shelf.new }
-    ensures accepted { IfOk result (λ found. IsFaultless both.now.soc both.now.limits (plan_value found.plan)) }
-    ensures placed { IfOk result (λ found. IsPlaced both.now.soc (plan_value found.plan) found.placed) }
-    ensures loads { LoadsAccepted both.now.soc both.now.limits name.now (H.held shelf.old) (H.faults shelf.old)
-        (H.faults shelf.new) result }
+    ensures accepted { IfOk result
+        (λ found. IsFaultless both.now.soc both.now.limits (plan_value found.plan)) }
+    ensures placed { IfOk result
+        (λ found. IsPlaced both.now.soc (plan_value found.plan) found.placed) }
+    ensures loads { LoadsAccepted both.now.soc both.now.limits name.now (H.held shelf.old)
+        (H.faults shelf.old) (H.faults shelf.new) result }
     ensures by_loads { LoadsPlan H.is_load both.now.soc both.now.limits
         name.now shelf.old result shelf.new }
 {
@@ -337,7 +345,8 @@ pub fn load_both<H: Shelf>(
 ) -> Result<Both, Verdict>
     ensures held_stays { H.held shelf.new ≡ H.held shelf.old }
     ensures faults_never_fall { H.faults shelf.old ≤ H.faults shelf.new }
-    ensures loads { LoadsBoth soc.now limits.now (H.held shelf.old) (H.faults shelf.old) (H.faults shelf.new) result }
+    ensures loads { LoadsBoth soc.now limits.now (H.held shelf.old) (H.faults shelf.old)
+        (H.faults shelf.new) result }
     ensures by_loads { LoadsTwo H.is_load soc.now limits.now shelf.old result shelf.new }
 {
     let soc = load_chip(alloc, soc, shelf)?;
@@ -359,7 +368,8 @@ pub fn load_all<H: Shelf>(
 ) -> Result<Accepted, Verdict>
     ensures held_stays { H.held shelf.new ≡ H.held shelf.old }
     ensures faults_never_fall { H.faults shelf.old ≤ H.faults shelf.new }
-    ensures loads { LoadsAll soc.now limits.now plan.now (H.held shelf.old) (H.faults shelf.old) (H.faults shelf.new) result }
+    ensures loads { LoadsAll soc.now limits.now plan.now (H.held shelf.old) (H.faults shelf.old)
+        (H.faults shelf.new) result }
     ensures by_loads { LoadsThree H.is_load soc.now limits.now plan.now shelf.old result shelf.new }
 {
     let both = load_both(alloc, soc, limits, shelf)?;

@@ -49,7 +49,8 @@ pub fn report_line<T: Sink>(
 )
     ensures faults { T.faults progress.old ≤ T.faults progress.new }
     ensures puts { (failed : Bool) × Puts T.is_put progress.old failed progress.new }
-    ensures reported { MayAdd (reported_line first.now done second.now best) (T.written progress.old) (T.written progress.new) }
+    ensures reported { MayAdd (reported_line first.now done second.now best)
+        (T.written progress.old) (T.written progress.new) }
 {
     match write_line(line, first, done, second, best) {
         Ok(()) => {}

@@ -37,7 +37,8 @@ fn number_word(word: &str) -> Option<u64>
 
 /// `widths` with a word for the wires, where that is a number from 1 to 256.
 fn widths<'a>(soc: &'a str, wires: &str) -> Option<Command<'a>>
-    ensures value { option_map command_value result ≡ widths_of soc.now (number_of wires.now WIRES_MOST) }
+    ensures value { option_map command_value result
+        ≡ widths_of soc.now (number_of wires.now WIRES_MOST) }
     ensures range { IfSome result (λ c. IsInRange (command_value c)) }
 {
     let wires = number(wires.as_bytes(), WIRES_MOST)?;
@@ -49,7 +50,8 @@ fn widths<'a>(soc: &'a str, wires: &str) -> Option<Command<'a>>
 
 /// `sample` with words for the modules and for the seed, where both are numbers.
 fn sample<'a>(n: &str, seed: &str) -> Option<Command<'a>>
-    ensures value { option_map command_value result ≡ sample_of (number_of n.now NUMBER_WORD_MOST) (number_of seed.now NUMBER_WORD_MOST) }
+    ensures value { option_map command_value result
+        ≡ sample_of (number_of n.now NUMBER_WORD_MOST) (number_of seed.now NUMBER_WORD_MOST) }
     ensures range { IfSome result (λ c. IsInRange (command_value c)) }
 {
     let n = number_word(n)?;
@@ -59,7 +61,8 @@ fn sample<'a>(n: &str, seed: &str) -> Option<Command<'a>>
 
 /// `split` with a word for the patterns of a part, where that is a number of at least 1.
 fn split_words<'a>(soc: &'a str, limits: &'a str, most: &str) -> Option<Command<'a>>
-    ensures value { option_map command_value result ≡ split_of soc.now limits.now (number_of most.now NUMBER_WORD_MOST) }
+    ensures value { option_map command_value result
+        ≡ split_of soc.now limits.now (number_of most.now NUMBER_WORD_MOST) }
     ensures range { IfSome result (λ c. IsInRange (command_value c)) }
 {
     let most = number_word(most)?;
@@ -77,7 +80,8 @@ fn improve_words<'a>(
     tries: &str,
     seed: &str,
 ) -> Option<Command<'a>>
-    ensures value { option_map command_value result ≡ improve_of soc.now limits.now plan.now (number_of tries.now TRIES_MOST)
+    ensures value { option_map command_value result
+        ≡ improve_of soc.now limits.now plan.now (number_of tries.now TRIES_MOST)
         (number_of seed.now NUMBER_WORD_MOST) }
     ensures range { IfSome result (λ c. IsInRange (command_value c)) }
 {
@@ -94,7 +98,8 @@ fn improve_words<'a>(
 
 /// `prove` with a word for the nodes, where that is a number from 1 to 1,000,000.
 fn prove_words<'a>(soc: &'a str, limits: &'a str, plan: &'a str, nodes: &str) -> Option<Command<'a>>
-    ensures value { option_map command_value result ≡ prove_of soc.now limits.now plan.now (number_of nodes.now NODES_MOST) }
+    ensures value { option_map command_value result
+        ≡ prove_of soc.now limits.now plan.now (number_of nodes.now NODES_MOST) }
     ensures range { IfSome result (λ c. IsInRange (command_value c)) }
 {
     let nodes = number(nodes.as_bytes(), NODES_MOST)?;
@@ -149,7 +154,8 @@ fn two<'a>(word: &str, first: &'a str, last: &'a str) -> Option<Command<'a>>
 /// The command of a word with three more words.
 #[tactic(auto, unfolding(crate::specs::Commands::with_three))]
 fn three<'a>(word: &str, soc: &'a str, limits: &'a str, last: &'a str) -> Option<Command<'a>>
-    ensures value { option_map command_value result ≡ with_three word.now soc.now limits.now last.now }
+    ensures value { option_map command_value result
+        ≡ with_three word.now soc.now limits.now last.now }
     ensures range { IfSome result (λ c. IsInRange (command_value c)) }
 {
     if word == "check" {
@@ -209,7 +215,8 @@ fn four<'a>(
     plan: &'a str,
     last: &'a str,
 ) -> Option<Command<'a>>
-    ensures value { option_map command_value result ≡ with_four word.now soc.now limits.now plan.now last.now }
+    ensures value { option_map command_value result
+        ≡ with_four word.now soc.now limits.now plan.now last.now }
     ensures range { IfSome result (λ c. IsInRange (command_value c)) }
 {
     if word == "vectors" {
@@ -302,7 +309,8 @@ fn five<'a>(
     tries: &str,
     seed: &str,
 ) -> Option<Command<'a>>
-    ensures value { option_map command_value result ≡ with_five word.now soc.now limits.now plan.now tries.now seed.now }
+    ensures value { option_map command_value result
+        ≡ with_five word.now soc.now limits.now plan.now tries.now seed.now }
     ensures range { IfSome result (λ c. IsInRange (command_value c)) }
 {
     if word == "improve" {

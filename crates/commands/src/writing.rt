@@ -9,7 +9,8 @@ use outside::{Sink, WriteFault, put_all};
 /// Writes a text, and answers the status that it is for, or that the output failed.
 fn write_text<K: Sink>(status: Status, text: &[u8], out: &mut K) -> Status
     ensures faults_never_fall { K.faults out.old ≤ K.faults out.new }
-    ensures written { IsWritten status text.now (K.faults out.old) (K.faults out.new) (K.written out.old) result (K.written out.new) }
+    ensures written { IsWritten status text.now (K.faults out.old) (K.faults out.new)
+        (K.written out.old) result (K.written out.new) }
     ensures puts { PutsFor K.is_put out.old status result out.new }
 {
     match put_all(out, text) {
@@ -24,7 +25,8 @@ fn write_text<K: Sink>(status: Status, text: &[u8], out: &mut K) -> Status
 /// `WriteFault`.
 pub fn write_verdict<K: Sink>(verdict: Verdict, out: &mut K) -> Status
     ensures faults_never_fall { K.faults out.old ≤ K.faults out.new }
-    ensures written { Writes verdict (K.faults out.old) (K.faults out.new) (K.written out.old) result (K.written out.new) }
+    ensures written { Writes verdict (K.faults out.old) (K.faults out.new) (K.written out.old)
+        result (K.written out.new) }
     ensures puts { PutsVerdict K.is_put verdict out.old result out.new }
 {
     match verdict {

@@ -12,6 +12,6 @@ ghost use Rattle.control_laws.specs.Said.{RunThePlan};
 /// In a good plan of a sound chip the controls say what each test does at each cycle, and a chip that goes by them has the bits of the
 /// plan's run in all its chains.
 pub fn controls_run_the_plan()
-    ensures { (soc : SocValue) (limits : LimitsValue) (plan : PlanValue) → IsSoundChip soc → IsGood soc limits plan →
-        RunThePlan soc plan }
+    ensures { (soc : SocValue) (limits : LimitsValue) (plan : PlanValue) → IsSoundChip soc →
+        IsGood soc limits plan → RunThePlan soc plan }
 {}

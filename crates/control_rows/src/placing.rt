@@ -28,7 +28,8 @@ pub struct ControlledTest {
 
 /// The phases of a live test of the module that has these wrappers. A self test has none to speak of.
 fn phases_of(module: &Module, wrappers: &ModeWrappers, test: &Test) -> Phases
-    requires { (plan : PlanValue) × IsWrappedTest plan (module_value «module».now) test.now wrappers.now }
+    requires { (plan : PlanValue)
+        × IsWrappedTest plan (module_value «module».now) test.now wrappers.now }
     ensures { (plan : PlanValue) → AreModeWrappers plan (module_value «module».now) wrappers.now →
         result ≡ the_phases plan (module_value «module».now) test.now }
 {
@@ -59,10 +60,12 @@ fn controlled_test(
     module: &Module,
     test: &Test,
 ) -> ControlledTest
-    requires module_there { slice_get placed.now.soc.modules place ≡ Some (module_value «module».now) }
+    requires module_there { slice_get placed.now.soc.modules place
+        ≡ Some (module_value «module».now) }
     requires test_there { (k : ℕ) × (slice_get «module».now.tests.items k ≡ Some test.now) }
     requires live { IsTrue (is_live test.now) }
-    ensures { result ≡ controlled placed.now.plan place before (module_value «module».now) test.now }
+    ensures { result
+        ≡ controlled placed.now.plan place before (module_value «module».now) test.now }
 {
     // a use of the plan tells that it is good
     let _ = &placed.soc;
@@ -86,8 +89,10 @@ fn push_module(
     module: &Module,
 ) -> Result<(), NoMemory>
     requires { slice_get placed.now.soc.modules place ≡ Some (module_value «module».now) }
-    ensures { OnOk result (tests.new.items ≡ tests.old.items
-        ++ controlled_in placed.now.plan place before (module_value «module».now) «module».now.tests.items) }
+    ensures { OnOk result (tests.new.items
+        ≡ tests.old.items
+        ++ controlled_in placed.now.plan place before (module_value «module».now)
+        «module».now.tests.items) }
 {
     for test in &module.tests {
         if live(test) {

@@ -42,7 +42,8 @@ impl ControlRows {
 
     /// How many controls there are: the digits of a row.
     pub fn count(&self) -> usize
-        ensures { (soc : SocValue) (plan : PlanValue) → AreControlRows soc plan self.now → result ≡ length (controls soc) }
+        ensures { (soc : SocValue) (plan : PlanValue) → AreControlRows soc plan self.now →
+            result ≡ length (controls soc) }
     {
         self.columns
     }
@@ -53,8 +54,10 @@ impl ControlRows {
         requires room { HaveRowRoom self.now count text.old }
         requires fits { from + count < 2 ^ 64 }
         ensures long { length text.new ≡ length text.old }
-        ensures rows { (soc : SocValue) (plan : PlanValue) → AreControlRows soc plan self.now → (r : ℕ) → r < count →
-            slice_range text.new (r * length (controls soc)) (r * length (controls soc) + length (controls soc))
+        ensures rows { (soc : SocValue) (plan : PlanValue) → AreControlRows soc plan self.now →
+            (r : ℕ) → r < count →
+            slice_range text.new (r * length (controls soc))
+            (r * length (controls soc) + length (controls soc))
             ≡ control_row soc plan (from + r) }
     {
         let columns = self.columns;
@@ -69,7 +72,8 @@ impl ControlRows {
     /// The columns of the controls of a test's module.
     fn own_columns(&self, test: &ControlledTest) -> ModuleColumns
         requires { length self.now.tests.items + self.now.modules + test.now.before < 2 ^ 64 }
-        ensures { result ≡ own_columns (length self.now.tests.items) self.now.modules test.now.before }
+        ensures { result
+            ≡ own_columns (length self.now.tests.items) self.now.modules test.now.before }
     {
         let shifts = self.tests.len();
         ModuleColumns {

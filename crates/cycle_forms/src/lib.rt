@@ -64,5 +64,7 @@ pub trait CycleForm {
         requires row { HasSizes (wires_of self.now) (controls_of self.now) (row_of row) }
         requires room { at + room_of self.now ≤ length text.old }
         ensures within { result ≤ at + room_of self.now }
-        ensures put { IsPutAt at (part_of self.now cycle (option_row before.entry) (row_of row.entry)) result text.old text.new };
+        ensures put { IsPutAt at
+            (part_of self.now cycle (option_row before.entry) (row_of row.entry)) result text.old
+            text.new };
 }

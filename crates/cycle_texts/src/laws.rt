@@ -11,5 +11,6 @@ ghost use Rattle.cycle_texts.specs.ProgramText.{row_at, vectors_of_rows};
 /// The rows of a plan's cycles have the bits and the marks of the lines of its vectors, line for line.
 pub fn rows_show_vectors()
     ensures { (soc : SocValue) (plan : PlanValue) (content : Content) (marks : Marks) →
-        marked_text soc plan content marks ≡ vectors_of_rows (wires_of plan) plan.cycles (row_at soc plan content marks) }
+        marked_text soc plan content marks
+        ≡ vectors_of_rows (wires_of plan) plan.cycles (row_at soc plan content marks) }
 {}

@@ -48,20 +48,27 @@ fn write_in_room<F: CycleForm, C: Contents, K: Sink>(
     requires wires { source.now.wires ≡ F.wires_of form.now }
     requires width { source.now.width ≡ F.controls_of form.now }
     requires cycles { source.now.cycles ≤ CYCLE_MOST }
-    requires room { HaveRoom source.now (F.room_of form.now) rooms.lines.items rooms.digits.items rooms.text.items }
+    requires room { HaveRoom source.now (F.room_of form.now) rooms.lines.items rooms.digits.items
+        rooms.text.items }
     ensures faults_never_fall { K.faults out.old ≤ K.faults out.new }
     ensures written { result ≡ LinesOutcome.Written → (content : Content) (marks : Marks) →
-        StandFor (C.keys contents.now) (C.drive contents.now) (C.mark contents.now) (soc_value source.now.soc.now) content marks →
-        Appended (K.written out.old) (program_text (F.head_of form.now) (F.part_of form.now) (F.tail_of form.now)
-        (soc_value source.now.soc.now) (plan_value source.now.plan.now) content marks) (K.written out.new) }
+        StandFor (C.keys contents.now) (C.drive contents.now) (C.mark contents.now)
+        (soc_value source.now.soc.now) content marks →
+        Appended (K.written out.old)
+        (program_text (F.head_of form.now) (F.part_of form.now) (F.tail_of form.now)
+        (soc_value source.now.soc.now) (plan_value source.now.plan.now) content marks)
+        (K.written out.new) }
     ensures no_memory_writes_nothing { result ≡ LinesOutcome.NoMemory → out.new ≡ out.old }
     ensures none_failed { result ≡ LinesOutcome.Written → Puts K.is_put out.old false out.new }
     ensures last_failed { result ≡ LinesOutcome.WriteFault → Puts K.is_put out.old true out.new }
     ensures fault { result ≡ LinesOutcome.WriteFault → Rose (K.faults out.old) (K.faults out.new) }
     ensures front { result ≡ LinesOutcome.WriteFault → (content : Content) (marks : Marks) →
-        StandFor (C.keys contents.now) (C.drive contents.now) (C.mark contents.now) (soc_value source.now.soc.now) content marks →
-        AppendedFront (K.written out.old) (program_text (F.head_of form.now) (F.part_of form.now) (F.tail_of form.now)
-        (soc_value source.now.soc.now) (plan_value source.now.plan.now) content marks) (K.written out.new) }
+        StandFor (C.keys contents.now) (C.drive contents.now) (C.mark contents.now)
+        (soc_value source.now.soc.now) content marks →
+        AppendedFront (K.written out.old)
+        (program_text (F.head_of form.now) (F.part_of form.now) (F.tail_of form.now)
+        (soc_value source.now.soc.now) (plan_value source.now.plan.now) content marks)
+        (K.written out.new) }
 {
     let mut rooms = rooms;
     let lines: &mut [u8] = &mut rooms.lines;
@@ -96,8 +103,10 @@ pub fn write_program<F: CycleForm, C: Contents, K: Sink>(
     requires controls { F.controls_of form.now ≡ length (controls placed.now.soc) }
     ensures faults_never_fall { K.faults out.old ≤ K.faults out.new }
     ensures written { result ≡ LinesOutcome.Written → (content : Content) (marks : Marks) →
-        StandFor (C.keys contents.now) (C.drive contents.now) (C.mark contents.now) placed.now.soc content marks →
-        Appended (K.written out.old) (program_text (F.head_of form.now) (F.part_of form.now) (F.tail_of form.now)
+        StandFor (C.keys contents.now) (C.drive contents.now) (C.mark contents.now) placed.now.soc
+        content marks →
+        Appended (K.written out.old)
+        (program_text (F.head_of form.now) (F.part_of form.now) (F.tail_of form.now)
         placed.now.soc placed.now.plan content marks) (K.written out.new) }
     ensures no_memory_writes_nothing { result ≡ LinesOutcome.NoMemory → out.new ≡ out.old }
 
@@ -107,8 +116,10 @@ pub fn write_program<F: CycleForm, C: Contents, K: Sink>(
 
     ensures fault { result ≡ LinesOutcome.WriteFault → Rose (K.faults out.old) (K.faults out.new) }
     ensures front { result ≡ LinesOutcome.WriteFault → (content : Content) (marks : Marks) →
-        StandFor (C.keys contents.now) (C.drive contents.now) (C.mark contents.now) placed.now.soc content marks →
-        AppendedFront (K.written out.old) (program_text (F.head_of form.now) (F.part_of form.now) (F.tail_of form.now)
+        StandFor (C.keys contents.now) (C.drive contents.now) (C.mark contents.now) placed.now.soc
+        content marks →
+        AppendedFront (K.written out.old)
+        (program_text (F.head_of form.now) (F.part_of form.now) (F.tail_of form.now)
         placed.now.soc placed.now.plan content marks) (K.written out.new) }
 {
     let source = match RowSource::new(alloc, placed, contents) {

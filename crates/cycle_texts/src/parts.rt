@@ -19,8 +19,10 @@ fn with_room<K: Sink>(text: &[u8], at: usize, room: usize, out: &mut K) -> Resul
     requires room { room ≤ length text.now }
     ensures faults_never_fall { K.faults out.old ≤ K.faults out.new }
     ensures room { IfOk result (λ next. next + room ≤ length text.now) }
-    ensures moved { IfOk result (λ next. IsUnderWay (K.written out.old) (take next text.now) (take at text.now) (K.written out.new)) }
-    ensures front { OnErr result (AppendedFront (K.written out.old) (take at text.now) (K.written out.new)) }
+    ensures moved { IfOk result (λ next. IsUnderWay (K.written out.old) (take next text.now)
+        (take at text.now) (K.written out.new)) }
+    ensures front { OnErr result
+        (AppendedFront (K.written out.old) (take at text.now) (K.written out.new)) }
     ensures fault { OnErr result (Rose (K.faults out.old) (K.faults out.new)) }
     ensures none_failed { OnOk result (Puts K.is_put out.old false out.new) }
     ensures last_failed { OnErr result (Puts K.is_put out.old true out.new) }
@@ -49,8 +51,9 @@ fn put_part<F: CycleForm>(
     requires cycles { block.first + block.rows ≤ CYCLE_MOST }
     requires room { at + F.room_of form.now ≤ length text.old }
     ensures within { result ≤ at + F.room_of form.now }
-    ensures put { IsPutAt at (F.part_of form.now (block.entry.first + place) (block_before block.entry place) (block_row block.entry place))
-        result text.old text.new }
+    ensures put { IsPutAt at
+        (F.part_of form.now (block.entry.first + place) (block_before block.entry place)
+        (block_row block.entry place)) result text.old text.new }
 {
     let cycle = block.first + place as u64;
     let before = block.row_before(place);
@@ -75,10 +78,14 @@ pub fn put_parts<F: CycleForm, K: Sink>(
     requires cycles { block.first + block.rows ≤ CYCLE_MOST }
     requires room { F.room_of form.now ≤ length text.old }
     ensures faults_never_fall { K.faults out.old ≤ K.faults out.new }
-    ensures all { (row : ℕ → CycleRow) → HasRows row block.entry → OnOk result (Appended (K.written out.old)
-        (parts_of (F.part_of form.now) row (block.entry.first + skipped) (block.entry.rows - skipped)) (K.written out.new)) }
-    ensures front { (row : ℕ → CycleRow) → HasRows row block.entry → OnErr result (AppendedFront (K.written out.old)
-        (parts_of (F.part_of form.now) row (block.entry.first + skipped) (block.entry.rows - skipped)) (K.written out.new)) }
+    ensures all { (row : ℕ → CycleRow) → HasRows row block.entry →
+        OnOk result (Appended (K.written out.old)
+        (parts_of (F.part_of form.now) row (block.entry.first + skipped)
+        (block.entry.rows - skipped)) (K.written out.new)) }
+    ensures front { (row : ℕ → CycleRow) → HasRows row block.entry →
+        OnErr result (AppendedFront (K.written out.old)
+        (parts_of (F.part_of form.now) row (block.entry.first + skipped)
+        (block.entry.rows - skipped)) (K.written out.new)) }
     ensures fault { OnErr result (Rose (K.faults out.old) (K.faults out.new)) }
     ensures none_failed { OnOk result (Puts K.is_put out.old false out.new) }
     ensures last_failed { OnErr result (Puts K.is_put out.old true out.new) }

@@ -55,7 +55,8 @@ impl<'a> RowSource<'a> {
         requires { wires_of placed.now.plan ≤ 256 }
         ensures soc { IfOk result (λ source. soc_value source.soc.now ≡ placed.now.soc) }
         ensures plan { IfOk result (λ source. plan_value source.plan.now ≡ placed.now.plan) }
-        ensures source { IfOk result (IsSourceOf (C.keys contents.now) placed.now.soc placed.now.plan) }
+        ensures source { IfOk result
+            (IsSourceOf (C.keys contents.now) placed.now.soc placed.now.plan) }
     {
         let plan = placed.plan;
         let wires = all_wires(plan) as usize;
@@ -91,9 +92,11 @@ impl<'a> RowSource<'a> {
         ensures lines { length lines.new ≡ length lines.old }
         ensures digits { length digits.new ≡ length digits.old }
         ensures rows { (content : Content) (marks : Marks) →
-            StandFor (C.keys contents.now) (C.drive contents.now) (C.mark contents.now) (soc_value self.now.soc.now) content marks →
-            AreRows (row_at (soc_value self.now.soc.now) (plan_value self.now.plan.now) content marks) self.now.wires self.now.width
-            lines.new digits.new first count }
+            StandFor (C.keys contents.now) (C.drive contents.now) (C.mark contents.now)
+            (soc_value self.now.soc.now) content marks →
+            AreRows
+            (row_at (soc_value self.now.soc.now) (plan_value self.now.plan.now) content marks)
+            self.now.wires self.now.width lines.new digits.new first count }
     {
         self.vectors.put_lines(contents, lines, first, count);
         self.controls.put_rows(digits, first, count);
@@ -130,7 +133,8 @@ impl BlockRooms {
     pub fn new(alloc: Global, source: &RowSource<'_>, room: usize) -> Result<BlockRooms, NoMemory>
         requires narrow { source.now.wires ≤ 256 }
         requires few { source.now.most < 2 ^ 63 }
-        ensures { IfOk result (λ rooms. HaveRoom source.now room rooms.lines.items rooms.digits.items rooms.text.items) }
+        ensures { IfOk result (λ rooms. HaveRoom source.now room rooms.lines.items
+            rooms.digits.items rooms.text.items) }
     {
         let rows = source.most as usize + 1;
         let lines = rows_of_bytes(alloc, rows, line_length(source.wires))?;

@@ -35,15 +35,19 @@ fn write_cycles<F: CycleForm, C: Contents, K: Sink>(
     requires room { HaveRoom source.now (F.room_of form.now) lines.old digits.old text.old }
     ensures faults_never_fall { K.faults out.old ≤ K.faults out.new }
     ensures all { (content : Content) (marks : Marks) →
-        StandFor (C.keys contents.now) (C.drive contents.now) (C.mark contents.now) (soc_value source.now.soc.now) content marks →
+        StandFor (C.keys contents.now) (C.drive contents.now) (C.mark contents.now)
+        (soc_value source.now.soc.now) content marks →
         OnOk result (Appended (K.written out.old)
-        (parts_of (F.part_of form.now) (row_at (soc_value source.now.soc.now) (plan_value source.now.plan.now) content marks)
-        0 source.now.cycles) (K.written out.new)) }
+        (parts_of (F.part_of form.now)
+        (row_at (soc_value source.now.soc.now) (plan_value source.now.plan.now) content
+        marks) 0 source.now.cycles) (K.written out.new)) }
     ensures front { (content : Content) (marks : Marks) →
-        StandFor (C.keys contents.now) (C.drive contents.now) (C.mark contents.now) (soc_value source.now.soc.now) content marks →
+        StandFor (C.keys contents.now) (C.drive contents.now) (C.mark contents.now)
+        (soc_value source.now.soc.now) content marks →
         OnErr result (AppendedFront (K.written out.old)
-        (parts_of (F.part_of form.now) (row_at (soc_value source.now.soc.now) (plan_value source.now.plan.now) content marks)
-        0 source.now.cycles) (K.written out.new)) }
+        (parts_of (F.part_of form.now)
+        (row_at (soc_value source.now.soc.now) (plan_value source.now.plan.now) content
+        marks) 0 source.now.cycles) (K.written out.new)) }
     ensures fault { OnErr result (Rose (K.faults out.old) (K.faults out.new)) }
     ensures none_failed { OnOk result (Puts K.is_put out.old false out.new) }
     ensures last_failed { OnErr result (Puts K.is_put out.old true out.new) }
@@ -89,15 +93,19 @@ pub fn write_text<F: CycleForm, C: Contents, K: Sink>(
     requires room { HaveRoom source.now (F.room_of form.now) lines.old digits.old text.old }
     ensures faults_never_fall { K.faults out.old ≤ K.faults out.new }
     ensures all { (content : Content) (marks : Marks) →
-        StandFor (C.keys contents.now) (C.drive contents.now) (C.mark contents.now) (soc_value source.now.soc.now) content marks →
+        StandFor (C.keys contents.now) (C.drive contents.now) (C.mark contents.now)
+        (soc_value source.now.soc.now) content marks →
         OnOk result (Appended (K.written out.old)
         (program_text (F.head_of form.now) (F.part_of form.now) (F.tail_of form.now)
-        (soc_value source.now.soc.now) (plan_value source.now.plan.now) content marks) (K.written out.new)) }
+        (soc_value source.now.soc.now) (plan_value source.now.plan.now) content marks)
+        (K.written out.new)) }
     ensures front { (content : Content) (marks : Marks) →
-        StandFor (C.keys contents.now) (C.drive contents.now) (C.mark contents.now) (soc_value source.now.soc.now) content marks →
+        StandFor (C.keys contents.now) (C.drive contents.now) (C.mark contents.now)
+        (soc_value source.now.soc.now) content marks →
         OnErr result (AppendedFront (K.written out.old)
         (program_text (F.head_of form.now) (F.part_of form.now) (F.tail_of form.now)
-        (soc_value source.now.soc.now) (plan_value source.now.plan.now) content marks) (K.written out.new)) }
+        (soc_value source.now.soc.now) (plan_value source.now.plan.now) content marks)
+        (K.written out.new)) }
     ensures fault { OnErr result (Rose (K.faults out.old) (K.faults out.new)) }
     ensures none_failed { OnOk result (Puts K.is_put out.old false out.new) }
     ensures last_failed { OnErr result (Puts K.is_put out.old true out.new) }

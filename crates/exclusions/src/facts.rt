@@ -106,8 +106,10 @@ fn push_facts(
     parent: Option<usize>,
     module: &Module,
 ) -> Result<(), NoMemory>
-    ensures { OnOk result (facts.new.items ≡ facts.old.items
-        ++ map (facts_at problem.now.limits place parent «module».now.number) (filter is_live «module».now.tests.items)) }
+    ensures { OnOk result (facts.new.items
+        ≡ facts.old.items
+        ++ map (facts_at problem.now.limits place parent «module».now.number)
+        (filter is_live «module».now.tests.items)) }
 {
     for test in &module.tests {
         if live(test) {

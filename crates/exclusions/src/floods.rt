@@ -11,7 +11,8 @@ use std::alloc::Global;
 /// Marks the tests of a list, and puts those that weren't marked on a stack.
 fn mark_all(tests: &[usize], marks: &mut Vec<bool>, stack: &mut Vec<usize>) -> Result<(), NoMemory>
     requires { (j : ℕ) → is_in j tests.now ≡ true → j < length marks.old.items }
-    ensures { OnOk result (AreMarked tests.now marks.old.items marks.new.items stack.old.items stack.new.items) }
+    ensures { OnOk result
+        (AreMarked tests.now marks.old.items marks.new.items stack.old.items stack.new.items) }
 {
     for test in tests {
         if marks[*test] {
@@ -28,7 +29,8 @@ fn led_to(alloc: Global, lists: &[Neighbours], from: usize) -> Result<Vec<bool>,
     requires among { AreAmong lists.now }
     requires from { from < length lists.now }
     ensures long { IfOk result (λ marks. length marks.items ≡ length lists.now) }
-    ensures marks { IfOk result (λ marks. (j : ℕ) → (is_marked marks.items j ≡ true) ↔ LedTo (map tests_of lists.now) from j) }
+    ensures marks { IfOk result (λ marks. (j : ℕ) →
+        (is_marked marks.items j ≡ true) ↔ LedTo (map tests_of lists.now) from j) }
 {
     let mut marks: Vec<bool> = vec![in alloc; false; lists.len()]?;
     let mut stack = Vec::new(alloc);
@@ -45,8 +47,8 @@ pub fn tests_after(alloc: Global, lists: &[Neighbours], test: usize) -> Result<V
     requires lists { (pairs : List (ℕ × ℕ)) × AreAfter pairs lists.now }
     requires test { test < length lists.now }
     ensures long { IfOk result (λ marks. length marks.items ≡ length lists.now) }
-    ensures marks { IfOk result (λ marks.
-        (pairs : List (ℕ × ℕ)) → AreAfter pairs lists.now → (j : ℕ) → (is_marked marks.items j ≡ true) ↔ Leads pairs test j) }
+    ensures marks { IfOk result (λ marks. (pairs : List (ℕ × ℕ)) → AreAfter pairs lists.now →
+        (j : ℕ) → (is_marked marks.items j ≡ true) ↔ Leads pairs test j) }
 {
     led_to(alloc, lists, test)
 }
@@ -57,8 +59,8 @@ pub fn tests_before(alloc: Global, lists: &[Neighbours], test: usize) -> Result<
     requires lists { (pairs : List (ℕ × ℕ)) × AreBefore pairs lists.now }
     requires test { test < length lists.now }
     ensures long { IfOk result (λ marks. length marks.items ≡ length lists.now) }
-    ensures marks { IfOk result (λ marks.
-        (pairs : List (ℕ × ℕ)) → AreBefore pairs lists.now → (j : ℕ) → (is_marked marks.items j ≡ true) ↔ Leads pairs j test) }
+    ensures marks { IfOk result (λ marks. (pairs : List (ℕ × ℕ)) → AreBefore pairs lists.now →
+        (j : ℕ) → (is_marked marks.items j ≡ true) ↔ Leads pairs j test) }
 {
     led_to(alloc, lists, test)
 }

@@ -26,8 +26,10 @@ fn least_of(steps: &[(u64, u64)]) -> u64
 
 /// The least that a test draws at a cycle, where the place of its profile is at hand.
 pub(crate) fn least_at(limits: &Limits, found: Option<usize>, own: u64) -> u64
-    requires { (id : TestId) × (found ≡ position (λ (p : Profile). same_test p.test id) limits.now.profiles.items) }
-    ensures { (id : TestId) → found ≡ position (λ (p : Profile). same_test p.test id) limits.now.profiles.items →
+    requires { (id : TestId)
+        × (found ≡ position (λ (p : Profile). same_test p.test id) limits.now.profiles.items) }
+    ensures { (id : TestId) →
+        found ≡ position (λ (p : Profile). same_test p.test id) limits.now.profiles.items →
         result ≡ least_power_of (limits_value limits.now) id own }
 {
     match found {

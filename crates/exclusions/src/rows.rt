@@ -43,9 +43,10 @@ impl ExclusionRows {
     /// exclude each other. `NoMemory` where there is none. It takes time by the live tests and the precedences.
     pub fn row(&self, alloc: Global, test: usize) -> Result<Vec<bool>, NoMemory>
         requires { HasRow self.now test }
-        ensures long { IfOk result (λ marks. (soc : SocValue) (limits : LimitsValue) → AreRowsOf soc limits self.now →
-            length marks.items ≡ length (live_tests soc)) }
-        ensures marks { IfOk result (λ marks. (soc : SocValue) (limits : LimitsValue) → AreRowsOf soc limits self.now →
+        ensures long { IfOk result (λ marks. (soc : SocValue) (limits : LimitsValue) →
+            AreRowsOf soc limits self.now → length marks.items ≡ length (live_tests soc)) }
+        ensures marks { IfOk result
+            (λ marks. (soc : SocValue) (limits : LimitsValue) → AreRowsOf soc limits self.now →
             (j : ℕ) → is_marked marks.items j ≡ excludes soc limits test j) }
     {
         let mut marks = tests_after(alloc, &self.after, test)?;
@@ -57,8 +58,9 @@ impl ExclusionRows {
     /// The least that the live test at a place draws at a cycle, in the unit of the limits.
     pub fn least(&self, test: usize) -> u64
         requires { HasRow self.now test }
-        ensures { (soc : SocValue) (limits : LimitsValue) (l : LiveTest) → AreRowsOf soc limits self.now →
-            slice_get (live_tests soc) test ≡ Some l → result ≡ least_power limits l }
+        ensures { (soc : SocValue) (limits : LimitsValue) (l : LiveTest) →
+            AreRowsOf soc limits self.now → slice_get (live_tests soc) test ≡ Some l →
+            result ≡ least_power limits l }
     {
         self.facts[test].least
     }
@@ -78,7 +80,8 @@ fn mark_row(
     ensures long { length marks.new ≡ length marks.old }
     ensures marks { (j : ℕ) (own other : TestFacts) → j < length facts.now →
         slice_get facts.now test ≡ Some own → slice_get facts.now j ≡ Some other →
-        is_marked marks.new j ≡ the_mark power own other test j (is_marked marks.old j) (is_marked ahead.now j) }
+        is_marked marks.new j
+        ≡ the_mark power own other test j (is_marked marks.old j) (is_marked ahead.now j) }
 {
     let own = facts[test];
     for place in 0..facts.len() {

@@ -29,7 +29,8 @@ fn outs_before(chains: &[ChainPlan], chain: usize) -> u64
 /// The flop that is `shifts` places from the end of scan chains, one behind the other.
 fn flop_from_end(lengths: &[u64], scans: &[u64], shifts: u64) -> Option<Cell>
     requires { All (λ c. c < length lengths.now) scans.now }
-    ensures { option_map cell_value result ≡ slice_get (reverse (flat_map (flops lengths.now) scans.now)) shifts }
+    ensures { option_map cell_value result
+        ≡ slice_get (reverse (flat_map (flops lengths.now) scans.now)) shifts }
 {
     let mut left = shifts;
     let mut place = scans.len();
@@ -53,8 +54,10 @@ fn flop_from_end(lengths: &[u64], scans: &[u64], shifts: u64) -> Option<Cell>
 fn read_from_end(lengths: &[u64], chain: &ChainPlan, outs_from: u64, shifts: u64) -> Option<Cell>
     requires listed { All (λ c. c < length lengths.now) chain.now.scans.items }
     requires fits { outs_from + chain.now.outs < 2 ^ 64 }
-    ensures { option_map cell_value result ≡ slice_get (reverse
-        (flat_map (flops lengths.now) chain.now.scans.items ++ out_cells outs_from chain.now.outs)) shifts }
+    ensures { option_map cell_value result
+        ≡ slice_get
+        (reverse (flat_map (flops lengths.now) chain.now.scans.items
+        ++ out_cells outs_from chain.now.outs)) shifts }
 {
     if shifts < chain.outs {
         let number = outs_from + (chain.outs - 1 - shifts);
@@ -66,10 +69,13 @@ fn read_from_end(lengths: &[u64], chain: &ChainPlan, outs_from: u64, shifts: u64
 /// The cell whose bit a chain of a wrapper shows `shifts` Shifts after a capture. None comes exactly where the chain has no
 /// cell there that is read.
 pub fn cell_shown(module: &Module, wrapper: &Wrapper, chain: usize, shifts: u64) -> Option<Cell>
-    requires proper { IsProper (module_value «module».now) wrapper.now.scan (map chain_value wrapper.now.chains.items) }
+    requires proper { IsProper (module_value «module».now) wrapper.now.scan
+        (map chain_value wrapper.now.chains.items) }
     requires small { module_size (module_value «module».now) ≤ 10 ^ 18 }
-    ensures { IsFromEnd (cells_at (chain_cells (module_value «module».now) wrapper.now.scan (map chain_value wrapper.now.chains.items))
-        chain) shifts result }
+    ensures { IsFromEnd
+        (cells_at
+        (chain_cells (module_value «module».now) wrapper.now.scan
+        (map chain_value wrapper.now.chains.items)) chain) shifts result }
 {
     if chain >= wrapper.chains.len() {
         return None;

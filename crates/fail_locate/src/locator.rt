@@ -52,7 +52,8 @@ fn buses_to(firsts: &[u64], wire: u64) -> usize
 fn on_bus(firsts: &[u64], wire: u64) -> Option<(usize, usize)>
     requires { IsNonDecreasing firsts.now }
     ensures some { IfSome result (λ found. IsOnWire firsts.now wire found.0 found.1) }
-    ensures none { IfNone result ((b : ℕ) → b < length firsts.now → wire < slice_index firsts.now b) }
+    ensures none { IfNone result
+        ((b : ℕ) → b < length firsts.now → wire < slice_index firsts.now b) }
 {
     let count = buses_to(firsts, wire);
     if count == 0 {
@@ -87,7 +88,8 @@ fn come_by(tests: &[WiredTest], bus: usize, cycle: u64) -> usize
 fn last_begun(tests: &[WiredTest], bus: usize, cycle: u64) -> Option<WiredTest>
     requires { AreInOrder tests.now }
     ensures some { IfSome result (IsLast tests.now bus cycle) }
-    ensures none { IfNone result ((n : ℕ) (t : WiredTest) → slice_get tests.now n ≡ Some t → t.bus ≡ bus → t.start ≤ cycle → ⊥) }
+    ensures none { IfNone result ((n : ℕ) (t : WiredTest) → slice_get tests.now n ≡ Some t →
+        t.bus ≡ bus → t.start ≤ cycle → ⊥) }
 {
     let count = come_by(tests, bus, cycle);
     if count == 0 {
@@ -116,7 +118,8 @@ fn turn_behind(test: &WiredTest, cycle: u64) -> Option<Turn>
 /// The cell of a test that is read `shifts` Shifts after a capture on the chain of a wire of its bus.
 fn cell_of(soc: &Soc, plan: &Plan, test: &WiredTest, chain: usize, shifts: u64) -> Option<Cell>
     requires sound { IsSoundChip (soc_value soc.now) }
-    requires wired { (u : PlannedTest) × IsWired (soc_value soc.now) (plan_value plan.now) u test.now }
+    requires wired { (u : PlannedTest)
+        × IsWired (soc_value soc.now) (plan_value plan.now) u test.now }
     ensures { (u : PlannedTest) → IsWired (soc_value soc.now) (plan_value plan.now) u test.now →
         IsFromEnd (cells_at u.chains chain) shifts result }
 {
@@ -146,7 +149,8 @@ impl<'a> Model for Locator<'a> {
 
     ghost view = { λ l. record { soc = soc_value l.soc.now; plan = plan_value l.plan.now } };
 
-    ghost invariant = { λ l. IsLocator (soc_value l.soc.now) (plan_value l.plan.now) l.firsts.items l.tests.items };
+    ghost invariant = { λ l. IsLocator (soc_value l.soc.now) (plan_value l.plan.now) l.firsts.items
+        l.tests.items };
 }
 
 impl<'a> Locator<'a> {
@@ -154,7 +158,8 @@ impl<'a> Locator<'a> {
     pub fn new(alloc: Global, soc: &'a Soc, plan: &'a Plan) -> Result<Locator<'a>, NoMemory>
         requires sound { IsSoundChip (soc_value soc.now) }
         requires good { IsGoodAlone (soc_value soc.now) (plan_value plan.now) }
-        ensures { IfOk result (λ locator. locator ≡ record { soc = soc_value soc.now; plan = plan_value plan.now }) }
+        ensures { IfOk result
+            (λ locator. locator ≡ record { soc = soc_value soc.now; plan = plan_value plan.now }) }
     {
         let names = LiveTests::new(alloc, soc)?;
         let placed = Placed::new(alloc, soc, plan)?;
@@ -167,7 +172,8 @@ impl<'a> Locator<'a> {
 
     /// A locator for a good plan of a sound chip, where the plan is placed already. `NoMemory` where there is none.
     pub fn of(alloc: Global, placed: &PlacedPlan<'a>) -> Result<Locator<'a>, NoMemory>
-        ensures { IfOk result (λ locator. locator ≡ record { soc = placed.now.soc; plan = placed.now.plan }) }
+        ensures { IfOk result
+            (λ locator. locator ≡ record { soc = placed.now.soc; plan = placed.now.plan }) }
     {
         let tests = wired_tests(alloc, placed)?;
         Locator::with_tests(alloc, placed.soc, placed.plan, tests)
@@ -184,7 +190,8 @@ impl<'a> Locator<'a> {
         requires good { IsGoodAlone (soc_value soc.now) (plan_value plan.now) }
         requires wired { AreWired (soc_value soc.now) (plan_value plan.now)
             (planned (soc_value soc.now) (plan_value plan.now)) tests.items }
-        ensures { IfOk result (λ locator. locator ≡ record { soc = soc_value soc.now; plan = plan_value plan.now }) }
+        ensures { IfOk result
+            (λ locator. locator ≡ record { soc = soc_value soc.now; plan = plan_value plan.now }) }
     {
         let firsts = first_wires(alloc, plan)?;
         Ok(Locator {

@@ -53,11 +53,13 @@ fn wired_in(
     test: &Test,
     wrapper: ModeWrapper,
 ) -> WiredTest
-    requires module_there { slice_get placed.now.soc.modules place ≡ Some (module_value «module».now) }
+    requires module_there { slice_get placed.now.soc.modules place
+        ≡ Some (module_value «module».now) }
     requires test_there { (k : ℕ) × (slice_get «module».now.tests.items k ≡ Some test.now) }
     requires live { IsTrue (is_live test.now) }
     requires tam { IsTrue test.now.tam }
-    requires wrapper { IsModeWrapper placed.now.plan (module_value «module».now) test.now.scan wrapper }
+    requires wrapper { IsModeWrapper placed.now.plan (module_value «module».now) test.now.scan
+        wrapper }
     ensures { IsWired placed.now.soc placed.now.plan
         (planned_test placed.now.plan place (module_value «module».now) test.now) result }
 {
@@ -83,7 +85,8 @@ fn wired_in(
 
 /// A test over the wires of the module at a place.
 fn wired(placed: &PlacedPlan<'_>, place: usize, module: &Module, test: &Test) -> WiredTest
-    requires module_there { slice_get placed.now.soc.modules place ≡ Some (module_value «module».now) }
+    requires module_there { slice_get placed.now.soc.modules place
+        ≡ Some (module_value «module».now) }
     requires test_there { (k : ℕ) × (slice_get «module».now.tests.items k ≡ Some test.now) }
     requires live { IsTrue (is_live test.now) }
     requires tam { IsTrue test.now.tam }
@@ -106,11 +109,14 @@ fn push_test(
     module: &Module,
     test: &Test,
 ) -> Result<(), NoMemory>
-    requires module_there { slice_get placed.now.soc.modules place ≡ Some (module_value «module».now) }
+    requires module_there { slice_get placed.now.soc.modules place
+        ≡ Some (module_value «module».now) }
     requires test_there { (k : ℕ) × (slice_get «module».now.tests.items k ≡ Some test.now) }
-    ensures { (done : List PlannedTest) → AreWired placed.now.soc placed.now.plan done tests.old.items →
+    ensures { (done : List PlannedTest) →
+        AreWired placed.now.soc placed.now.plan done tests.old.items →
         OnOk result (AreWired placed.now.soc placed.now.plan
-        (done ++ placed_tests placed.now.plan place (module_value «module».now) (test.now ∷ [])) tests.new.items) }
+        (done ++ placed_tests placed.now.plan place (module_value «module».now) (test.now ∷ []))
+        tests.new.items) }
 {
     if !over_wires(test) {
         return Ok(());
@@ -126,9 +132,12 @@ fn push_module(
     module: &Module,
 ) -> Result<(), NoMemory>
     requires { slice_get placed.now.soc.modules place ≡ Some (module_value «module».now) }
-    ensures { (done : List PlannedTest) → AreWired placed.now.soc placed.now.plan done tests.old.items →
+    ensures { (done : List PlannedTest) →
+        AreWired placed.now.soc placed.now.plan done tests.old.items →
         OnOk result (AreWired placed.now.soc placed.now.plan
-        (done ++ placed_tests placed.now.plan place (module_value «module».now) «module».now.tests.items) tests.new.items) }
+        (done
+        ++ placed_tests placed.now.plan place (module_value «module».now)
+        «module».now.tests.items) tests.new.items) }
 {
     for at in 0..module.tests.len() {
         push_test(placed, tests, place, module, &module.tests[at])?;
@@ -138,7 +147,8 @@ fn push_module(
 
 /// The tests over the wires, in the order of the chip.
 pub fn wired_tests(alloc: Global, placed: &PlacedPlan<'_>) -> Result<Vec<WiredTest>, NoMemory>
-    ensures { IfOk result (λ tests. AreWired placed.now.soc placed.now.plan (planned placed.now.soc placed.now.plan) tests.items) }
+    ensures { IfOk result (λ tests. AreWired placed.now.soc placed.now.plan
+        (planned placed.now.soc placed.now.plan) tests.items) }
 {
     let mut tests = Vec::new(alloc);
     for place in 0..placed.soc.modules.len() {

@@ -24,7 +24,8 @@ impl<'a, F: Format + Drop> Reader<'a> for Reading<F> {
 
     ghost most = { 2 ^ 64 };
 
-    ghost has_read = { λ reading words. IsReadBy F.grammar F.machine (F.state_of reading.read) words };
+    ghost has_read = { λ reading words. IsReadBy F.grammar F.machine (F.state_of reading.read)
+        words };
 
     ghost says = { λ words value. IsText F.grammar words (F.meaning_of value) };
 

@@ -73,7 +73,8 @@ impl CaseRoom {
 
     /// Undoes what was changed since `mark` was taken.
     pub fn undo(&mut self, mark: Mark)
-        ensures { (before : CaseRoom) → IsMark mark before → HasCase before → IsFurther before self.old → IsSame before self.new }
+        ensures { (before : CaseRoom) → IsMark mark before → HasCase before →
+            IsFurther before self.old → IsSame before self.new }
     {
         widths::undo_changes(&mut self.widths, mark.changes);
         ranks::undo_ranks(&mut self.ranks, mark.takings, mark.places);
@@ -84,7 +85,8 @@ impl CaseRoom {
         requires room { HasCase self.old }
         ensures room { HasCase self.new }
         ensures further { IsFurther self.old self.new }
-        ensures case { (c : Case) → IsCaseOf self.old c → IsCaseOf self.new (tightened self.old.widths.wires c) }
+        ensures case { (c : Case) → IsCaseOf self.old c →
+            IsCaseOf self.new (tightened self.old.widths.wires c) }
     {
         tighten_ranks(&mut self.widths);
     }
@@ -118,7 +120,8 @@ impl CaseRoom {
         requires more { length self.old.widths.intervals.items < self.old.widths.most }
         ensures room { HasCase self.new }
         ensures further { IsFurther self.old self.new }
-        ensures case { (c : Case) → IsCaseOf self.old c → IsCaseOf self.new (extended self.old.widths.wires c) }
+        ensures case { (c : Case) → IsCaseOf self.old c →
+            IsCaseOf self.new (extended self.old.widths.wires c) }
     {
         add_rank(&mut self.widths);
         copy_rest(&mut self.ranks, self.modules);
@@ -144,7 +147,8 @@ impl CaseRoom {
         requires place { place < self.old.modules }
         ensures room { HasCase self.new }
         ensures further { IsFurther self.old self.new }
-        ensures case { (c : Case) → IsCaseOf self.old c → IsCaseOf self.new (placed_on c rank place) }
+        ensures case { (c : Case) → IsCaseOf self.old c →
+            IsCaseOf self.new (placed_on c rank place) }
     {
         let at = self.placing(place);
         place_on(&mut self.ranks, at, rank);
@@ -159,7 +163,8 @@ impl CaseRoom {
         requires twins { All (λ q. q < length self.old.widths.intervals.items) twins.now }
         ensures room { HasCase self.new }
         ensures further { IsFurther self.old self.new }
-        ensures case { (c : Case) → IsCaseOf self.old c → IsCaseOf self.new (placed_off c (rank ∷ twins.now) place) }
+        ensures case { (c : Case) → IsCaseOf self.old c →
+            IsCaseOf self.new (placed_off c (rank ∷ twins.now) place) }
     {
         let at = self.placing(place);
         place_off(&mut self.ranks, at, rank, twins);

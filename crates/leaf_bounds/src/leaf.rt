@@ -80,8 +80,10 @@ fn is_known_list(list: &TestList, known: usize) -> bool
 
 /// Whether there is a list at a place, which may be weighed.
 fn is_named(lists: &[TestList], known: usize, place: u64) -> bool
-    ensures yes { result ≡ true → (weight : ℕ) → IsNamed (map list_value lists.now) known (place, weight) }
-    ensures no { result ≡ false → (weight : ℕ) → IsNamed (map list_value lists.now) known (place, weight) → ⊥ }
+    ensures yes { result ≡ true → (weight : ℕ) →
+        IsNamed (map list_value lists.now) known (place, weight) }
+    ensures no { result ≡ false → (weight : ℕ) →
+        IsNamed (map list_value lists.now) known (place, weight) → ⊥ }
 {
     if lists.len() as u64 <= place {
         return false;
@@ -117,7 +119,8 @@ fn weighed_leaf(
     requires weights { AreWeights (weights_value weights.now) }
     requires few { length weights.now.ranks.items ≤ 256 }
     requires weighed { IsWeighed basis.now (weights_value weights.now) weighed.now }
-    ensures answer { (c : Case) → IsCaseOf case.now c → IsWeighedAnswer basis.now c (weights_value weights.now) result }
+    ensures answer { (c : Case) → IsCaseOf case.now c →
+        IsWeighedAnswer basis.now c (weights_value weights.now) result }
 {
     match sum_of_least(basis, weighed, case, weights) {
         None => LeafAnswer::Holds,

@@ -102,10 +102,12 @@ fn add_in(table: &ListTable, list: usize, weight: u64, sums: &mut [u64])
     requires long { length table.now.roles.items ≡ table.now.kept * table.now.tests }
     requires list { list < table.now.kept }
     requires tests { length sums.old ≡ table.now.tests }
-    requires low { (i : ℕ) → i < length sums.old → slice_index sums.old i + weight ≤ 2 ^ 24 * 10 ^ 9 }
+    requires low { (i : ℕ) → i < length sums.old →
+        slice_index sums.old i + weight ≤ 2 ^ 24 * 10 ^ 9 }
     ensures long { length sums.new ≡ length sums.old }
     ensures sums { (i : ℕ) → i < length sums.old →
-        slice_index sums.new i ≡ slice_index sums.old i + in_weight (the_role table.now list i) weight }
+        slice_index sums.new i
+        ≡ slice_index sums.old i + in_weight (the_role table.now list i) weight }
 {
     for test in 0..sums.len() {
         let more = weight_of(role_at(table, list, test), weight);
@@ -115,7 +117,9 @@ fn add_in(table: &ListTable, list: usize, weight: u64, sums: &mut [u64])
 
 /// Nothing is weighed yet.
 fn clear_weighed(room: &mut Weighed)
-    ensures made { (basis : Basis) → length room.old.sums.items ≡ length (live_tests (chip_of basis)) → IsMade basis [] room.new }
+    ensures made { (basis : Basis) →
+        length room.old.sums.items ≡ length (live_tests (chip_of basis)) →
+        IsMade basis [] room.new }
     ensures beside { vec_capacity room.new.beside ≡ vec_capacity room.old.beside }
     ensures power { vec_capacity room.new.power ≡ vec_capacity room.old.power }
     ensures totals { room.new.totals ≡ room.old.totals }
@@ -131,10 +135,12 @@ fn weigh_list(basis: &Basis<'_>, list: usize, weight: u64, room: &mut Weighed)
     requires basis { IsBasis basis.now }
     requires kept { AllKept basis.now }
     requires list { list < length (lists_of basis.now) }
-    requires made { (os : List (ℕ × ℕ)) × IsMade basis.now os room.old × (all_weights os + weight ≤ 2 ^ 24 * 10 ^ 9) }
+    requires made { (os : List (ℕ × ℕ)) × IsMade basis.now os room.old
+        × (all_weights os + weight ≤ 2 ^ 24 * 10 ^ 9) }
     requires beside { length room.old.beside.items < vec_capacity room.old.beside }
     requires power { length room.old.power.items < vec_capacity room.old.power }
-    ensures made { (os : List (ℕ × ℕ)) → IsMade basis.now os room.old → IsMade basis.now (os ++ (list, weight) ∷ []) room.new }
+    ensures made { (os : List (ℕ × ℕ)) → IsMade basis.now os room.old →
+        IsMade basis.now (os ++ (list, weight) ∷ []) room.new }
     ensures beside { vec_capacity room.new.beside ≡ vec_capacity room.old.beside }
     ensures power { vec_capacity room.new.power ≡ vec_capacity room.old.power }
     ensures totals { room.new.totals ≡ room.old.totals }
@@ -205,8 +211,10 @@ fn weigh_totals(basis: &Basis<'_>, room: &mut Weighed)
     requires kept { AllKept basis.now }
     requires space { HasSpaceFor basis.now room.old }
     requires made { IsMade basis.now [] room.old }
-    requires few { all_weights (by_places room.old.totals.items (length (lists_of basis.now))) ≤ 2 ^ 24 * 10 ^ 9 }
-    ensures made { IsMade basis.now (by_places room.old.totals.items (length (lists_of basis.now))) room.new }
+    requires few { all_weights (by_places room.old.totals.items (length (lists_of basis.now)))
+        ≤ 2 ^ 24 * 10 ^ 9 }
+    ensures made { IsMade basis.now (by_places room.old.totals.items (length (lists_of basis.now)))
+        room.new }
     ensures beside { vec_capacity room.new.beside ≡ vec_capacity room.old.beside }
     ensures power { vec_capacity room.new.power ≡ vec_capacity room.old.power }
     ensures totals { room.new.totals ≡ room.old.totals }
@@ -220,10 +228,11 @@ fn weigh_totals(basis: &Basis<'_>, room: &mut Weighed)
 pub(crate) fn weigh_leaf(basis: &Basis<'_>, lists: &[(u64, u64)], room: &mut Weighed)
     requires basis { IsBasis basis.now }
     requires kept { AllKept basis.now }
-    requires uses { (weights : WeightsValue) × (weights.lists ≡ lists.now) × AreUses basis.now weights }
+    requires uses { (weights : WeightsValue) × (weights.lists ≡ lists.now)
+        × AreUses basis.now weights }
     requires space { HasSpaceFor basis.now room.old }
-    ensures weighed { (weights : WeightsValue) → weights.lists ≡ lists.now → AreUses basis.now weights →
-        IsWeighed basis.now weights room.new }
+    ensures weighed { (weights : WeightsValue) → weights.lists ≡ lists.now →
+        AreUses basis.now weights → IsWeighed basis.now weights room.new }
     ensures space { HasSpaceFor basis.now room.new }
 {
     room.totals.fill(0);
@@ -245,7 +254,8 @@ fn counted_cycles(limit: u64, near: u64, power: u64, cycles: u64) -> u128
 fn counted_steps(limit: u64, near: u64, steps: &[(u64, u64)], cycles: u64) -> u128
     requires near { near ≤ limit }
     requires steps { Grow 0 steps.now }
-    ensures sum { result ≡ sum_below (λ r. the_counted limit near (step_power r 0 steps.now)) cycles }
+    ensures sum { result
+        ≡ sum_below (λ r. the_counted limit near (step_power r 0 steps.now)) cycles }
     ensures small { result ≤ limit * cycles }
 {
     let mut sum = 0u128;
@@ -280,11 +290,18 @@ fn drawn_by(
     cycles: u64,
 ) -> u128
     requires near { near ≤ limit }
-    requires steps { (i : ℕ) (p : Profile) → slice_get limits.now.profiles.items i ≡ Some p → Grow 0 p.steps.items }
-    requires profile { (l : LiveTest) × (profile ≡ position (λ (p : Profile). same_test p.test (id_of l)) limits.now.profiles.items) }
-    ensures sum { (l : LiveTest) → profile ≡ position (λ (p : Profile). same_test p.test (id_of l)) limits.now.profiles.items →
+    requires steps { (i : ℕ) (p : Profile) → slice_get limits.now.profiles.items i ≡ Some p →
+        Grow 0 p.steps.items }
+    requires profile { (l : LiveTest)
+        × (profile
+        ≡ position (λ (p : Profile). same_test p.test (id_of l)) limits.now.profiles.items) }
+    ensures sum { (l : LiveTest) →
+        profile ≡ position (λ (p : Profile). same_test p.test (id_of l)) limits.now.profiles.items →
         own ≡ l.test.power →
-        result ≡ sum_below (λ r. the_counted limit near (power_of_id (limits_value limits.now) (id_of l) l.test.power r)) cycles }
+        result
+        ≡ sum_below
+        (λ r. the_counted limit near
+        (power_of_id (limits_value limits.now) (id_of l) l.test.power r)) cycles }
     ensures small { result ≤ limit * cycles }
 {
     match profile {
@@ -296,9 +313,13 @@ fn drawn_by(
 /// The share of all power that a live test takes in `cycles` cycles, where this is the place of its profile, and its own power.
 fn power_use(limits: &Limits, near: u64, profile: Option<usize>, own: u64, cycles: u64) -> u64
     requires near { IsNear (limits_value limits.now) near }
-    requires steps { (i : ℕ) (p : Profile) → slice_get limits.now.profiles.items i ≡ Some p → Grow 0 p.steps.items }
-    requires profile { (l : LiveTest) × (profile ≡ position (λ (p : Profile). same_test p.test (id_of l)) limits.now.profiles.items) }
-    ensures share { (l : LiveTest) → profile ≡ position (λ (p : Profile). same_test p.test (id_of l)) limits.now.profiles.items →
+    requires steps { (i : ℕ) (p : Profile) → slice_get limits.now.profiles.items i ≡ Some p →
+        Grow 0 p.steps.items }
+    requires profile { (l : LiveTest)
+        × (profile
+        ≡ position (λ (p : Profile). same_test p.test (id_of l)) limits.now.profiles.items) }
+    ensures share { (l : LiveTest) →
+        profile ≡ position (λ (p : Profile). same_test p.test (id_of l)) limits.now.profiles.items →
         own ≡ l.test.power →
         result ≡ the_power_use (limits_value limits.now) near l cycles limits.now.power }
     ensures small { result ≤ cycles }
@@ -331,7 +352,8 @@ fn beside_uses(
     requires long { length table.now.roles.items ≡ table.now.kept * table.now.tests }
     requires listed { All (λ (b : BesideUse). b.list < table.now.kept) beside.now }
     requires test { test < table.now.tests }
-    requires fits { sum_by (beside_use table.now (the_rank rank) test cycles) beside.now ≤ USES_COST_MOST }
+    requires fits { sum_by (beside_use table.now (the_rank rank) test cycles) beside.now
+        ≤ USES_COST_MOST }
     ensures { result ≡ sum_by (beside_use table.now (the_rank rank) test cycles) beside.now }
 {
     let mut sum = 0u128;
@@ -352,10 +374,15 @@ fn drawn_uses(
     cycles: u64,
 ) -> u128
     requires near { All (λ (p : ℕ × ℕ). IsNear (limits_value limits.now) p.0) power.now }
-    requires steps { (i : ℕ) (p : Profile) → slice_get limits.now.profiles.items i ≡ Some p → Grow 0 p.steps.items }
-    requires test { (l : LiveTest) × (profile ≡ position (λ (p : Profile). same_test p.test (id_of l)) limits.now.profiles.items)
-        × (own ≡ l.test.power) × (sum_by (drawn_use (limits_value limits.now) l cycles) power.now ≤ USES_COST_MOST) }
-    ensures { (l : LiveTest) → profile ≡ position (λ (p : Profile). same_test p.test (id_of l)) limits.now.profiles.items →
+    requires steps { (i : ℕ) (p : Profile) → slice_get limits.now.profiles.items i ≡ Some p →
+        Grow 0 p.steps.items }
+    requires test { (l : LiveTest)
+        × (profile
+        ≡ position (λ (p : Profile). same_test p.test (id_of l)) limits.now.profiles.items)
+        × (own ≡ l.test.power)
+        × (sum_by (drawn_use (limits_value limits.now) l cycles) power.now ≤ USES_COST_MOST) }
+    ensures { (l : LiveTest) →
+        profile ≡ position (λ (p : Profile). same_test p.test (id_of l)) limits.now.profiles.items →
         own ≡ l.test.power →
         result ≡ sum_by (drawn_use (limits_value limits.now) l cycles) power.now }
 {
@@ -426,7 +453,8 @@ fn test_uses(
 ) -> u128
     requires basis { IsBasis basis.now }
     requires kept { AllKept basis.now }
-    requires test { (l : LiveTest) × (slice_get (live_tests (chip_of basis.now)) test ≡ Some l) × (own ≡ l.test.power) }
+    requires test { (l : LiveTest) × (slice_get (live_tests (chip_of basis.now)) test ≡ Some l)
+        × (own ≡ l.test.power) }
     requires cycles { cycles ≤ 10 ^ 18 }
     requires weighed { (weights : WeightsValue) × IsWeighed basis.now weights room.now }
     ensures { (weights : WeightsValue) (l : LiveTest) → IsWeighed basis.now weights room.now →
@@ -504,8 +532,11 @@ fn costs_between(
     requires few_wires { width ≤ (limits_of basis.now).wires }
     requires weighed { (weights : WeightsValue) × IsWeighed basis.now weights room.now }
     ensures sum { (weights : WeightsValue) → IsWeighed basis.now weights room.now →
-        result + sum_by (the_kind_cost basis.now weights wires rank width) (drop to (live_tests (chip_of basis.now)))
-        ≡ sum_by (the_kind_cost basis.now weights wires rank width) (drop from (live_tests (chip_of basis.now))) }
+        result
+        + sum_by (the_kind_cost basis.now weights wires rank width)
+        (drop to (live_tests (chip_of basis.now)))
+        ≡ sum_by (the_kind_cost basis.now weights wires rank width)
+        (drop from (live_tests (chip_of basis.now))) }
     ensures small { result ≤ USES_COST_MOST }
 {
     let mut sum = 0u128;
@@ -532,7 +563,9 @@ pub(crate) fn module_cost(
     requires rate { rate < 2 ^ 40 }
     requires weighed { (weights : WeightsValue) × IsWeighed basis.now weights room.now }
     ensures cost { (weights : WeightsValue) → IsWeighed basis.now weights room.now →
-        result ≡ cost (chip_of basis.now) (limits_of basis.now) (lists_of basis.now) weights place (slot rank width rate) }
+        result
+        ≡ cost (chip_of basis.now) (limits_of basis.now) (lists_of basis.now) weights place
+        (slot rank width rate) }
     ensures small { result ≤ LEAF_COST_MOST }
 {
     let time = basis.times.tam_time(place, width);
@@ -547,7 +580,9 @@ pub(crate) fn self_cost(basis: &Basis<'_>, room: &Weighed) -> u128
     requires kept { AllKept basis.now }
     requires weighed { (weights : WeightsValue) × IsWeighed basis.now weights room.now }
     ensures cost { (weights : WeightsValue) → IsWeighed basis.now weights room.now →
-        result ≡ weighed (lists_of basis.now) weights (self_use (chip_of basis.now) (limits_of basis.now)) }
+        result
+        ≡ weighed (lists_of basis.now) weights
+        (self_use (chip_of basis.now) (limits_of basis.now)) }
     ensures small { result ≤ LEAF_COST_MOST }
 {
     costs_between(basis, room, 0, basis.tests.tests.len(), false, None, 1)

@@ -66,7 +66,8 @@ fn rank_weight(weights: &Weights, rank: usize) -> u64
 fn rank_range(case: &CaseRoom, weights: &Weights, rank: usize) -> WidthRange
     requires weights { AreWeights (weights_value weights.now) }
     requires rank { rank < length case.now.widths.intervals.items }
-    ensures range { (c : Case) → IsCaseOf case.now c → result ≡ rank_range c (weights_value weights.now) rank }
+    ensures range { (c : Case) → IsCaseOf case.now c →
+        result ≡ rank_range c (weights_value weights.now) rank }
     ensures base { result.base ≤ WEIGHT_MOST }
 {
     let interval = interval_at(&case.widths, rank);
@@ -84,7 +85,8 @@ fn rank_range(case: &CaseRoom, weights: &Weights, rank: usize) -> WidthRange
 /// The greatest width of a bus of the rest.
 pub(crate) fn rest_high(case: &CaseRoom) -> u64
     requires case { HasCase case.now }
-    ensures { (c : Case) → IsCaseOf case.now c → result ≡ rest_high case.now.widths.wires c (known_ranks c) }
+    ensures { (c : Case) → IsCaseOf case.now c →
+        result ≡ rest_high case.now.widths.wires c (known_ranks c) }
 {
     let known = known_ranks(&case.widths);
     if known == 0 {
@@ -97,7 +99,8 @@ pub(crate) fn rest_high(case: &CaseRoom) -> u64
 /// The range of the rest.
 fn rest_range(case: &CaseRoom, weights: &Weights) -> WidthRange
     requires case { HasCase case.now }
-    ensures { (c : Case) → IsCaseOf case.now c → result ≡ rest_range case.now.widths.wires c (weights_value weights.now) }
+    ensures { (c : Case) → IsCaseOf case.now c →
+        result ≡ rest_range case.now.widths.wires c (weights_value weights.now) }
 {
     WidthRange {
         rank: None,
@@ -115,8 +118,10 @@ pub(crate) fn is_short(basis: &Basis<'_>, place: usize, width: u64) -> bool
     requires place { place < length (chip_of basis.now).modules }
     requires some_wire { 1 ≤ width }
     requires few_wires { width ≤ (limits_of basis.now).wires }
-    ensures { result ≡ nat_lt (packed_tam_time (chip_of basis.now) place width + self_test_time (chip_of basis.now) place)
-        (claim_of basis.now) }
+    ensures { result
+        ≡ nat_lt
+        (packed_tam_time (chip_of basis.now) place width
+        + self_test_time (chip_of basis.now) place) (claim_of basis.now) }
 {
     let tam = basis.times.tam_time(place, width);
     let own = basis.times.self_time(place);
@@ -164,8 +169,8 @@ fn lesser_at(
     requires weighed { (weights : WeightsValue) × IsWeighed basis.now weights weighed.now }
     requires few { IfSome least (λ n. n ≤ LEAF_COST_MOST) }
     ensures cost { (weights : WeightsValue) → IsWeighed basis.now weights weighed.now →
-        IsLesserOfOne (costs_at basis.now weights place) (chip_of basis.now) (claim_of basis.now) place
-        (range_slot range width) least result }
+        IsLesserOfOne (costs_at basis.now weights place) (chip_of basis.now) (claim_of basis.now)
+        place (range_slot range width) least result }
     ensures small { IfSome result (λ n. n ≤ LEAF_COST_MOST) }
 {
     if !is_short(basis, place, width) {
@@ -200,7 +205,8 @@ fn lesser_in_range(
     requires few { IfSome least (λ n. n ≤ LEAF_COST_MOST) }
     ensures least { (weights : WeightsValue) → IsWeighed basis.now weights weighed.now →
         IsLesserOf (costs_at basis.now weights place)
-        (IsOfRange (chip_of basis.now) (claim_of basis.now) place range (range.high + 1)) least result }
+        (IsOfRange (chip_of basis.now) (claim_of basis.now) place range (range.high + 1)) least
+        result }
     ensures small { IfSome result (λ n. n ≤ LEAF_COST_MOST) }
 {
     wider_slots_cost_no_less();
@@ -237,7 +243,8 @@ fn is_no_better(range: WidthRange, earlier: WidthRange) -> bool
 
 /// Whether the range is no better than one that was tried.
 fn is_passed(tried: Option<WidthRange>, range: WidthRange) -> bool
-    ensures { result ≡ true → (earlier : the_range) × (tried ≡ Some earlier) × IsNoBetter range earlier }
+    ensures { result ≡ true →
+        (earlier : the_range) × (tried ≡ Some earlier) × IsNoBetter range earlier }
 {
     match tried {
         None => false,
@@ -328,8 +335,10 @@ fn least_on_ranks(
     requires weights { AreWeights (weights_value weights.now) }
     requires weighed { IsWeighed basis.now (weights_value weights.now) weighed.now }
     requires place { place < length (chip_of basis.now).modules }
-    ensures least { (c : Case) → IsCaseOf case.now c → IsLeastOf (costs_at basis.now (weights_value weights.now) place)
-        (IsOfRanks (chip_of basis.now) (claim_of basis.now) c (weights_value weights.now) place (known_ranks c)) result }
+    ensures least { (c : Case) → IsCaseOf case.now c →
+        IsLeastOf (costs_at basis.now (weights_value weights.now) place)
+        (IsOfRanks (chip_of basis.now) (claim_of basis.now) c (weights_value weights.now) place
+        (known_ranks c)) result }
     ensures small { IfSome result (λ n. n ≤ LEAF_COST_MOST) }
 {
     let known = known_ranks(&case.widths);
@@ -366,8 +375,10 @@ fn lesser_on_rest(
     requires weighed { IsWeighed basis.now (weights_value weights.now) weighed.now }
     requires place { place < length (chip_of basis.now).modules }
     requires few { IfSome least (λ n. n ≤ LEAF_COST_MOST) }
-    ensures least { (c : Case) → IsCaseOf case.now c → IsLesserOf (costs_at basis.now (weights_value weights.now) place)
-        (IsOfRest (chip_of basis.now) (limits_of basis.now).wires (claim_of basis.now) c (weights_value weights.now) place) least result }
+    ensures least { (c : Case) → IsCaseOf case.now c →
+        IsLesserOf (costs_at basis.now (weights_value weights.now) place)
+        (IsOfRest (chip_of basis.now) (limits_of basis.now).wires (claim_of basis.now) c
+        (weights_value weights.now) place) least result }
     ensures small { IfSome result (λ n. n ≤ LEAF_COST_MOST) }
 {
     if !is_left(&case.ranks, place) {
@@ -394,8 +405,10 @@ pub(crate) fn least_cost(
     requires weights { AreWeights (weights_value weights.now) }
     requires weighed { IsWeighed basis.now (weights_value weights.now) weighed.now }
     requires place { place < length (chip_of basis.now).modules }
-    ensures least { (c : Case) → IsCaseOf case.now c → IsLeastOf (costs_at basis.now (weights_value weights.now) place)
-        (IsOfModule (chip_of basis.now) (limits_of basis.now).wires (claim_of basis.now) c (weights_value weights.now) place) result }
+    ensures least { (c : Case) → IsCaseOf case.now c →
+        IsLeastOf (costs_at basis.now (weights_value weights.now) place)
+        (IsOfModule (chip_of basis.now) (limits_of basis.now).wires (claim_of basis.now) c
+        (weights_value weights.now) place) result }
     ensures small { IfSome result (λ n. n ≤ LEAF_COST_MOST) }
 {
     let known = least_on_ranks(basis, weighed, case, weights, place);

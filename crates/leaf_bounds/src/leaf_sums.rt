@@ -45,7 +45,8 @@ fn module_least(
     requires weights { AreWeights (weights_value weights.now) }
     requires weighed { IsWeighed basis.now (weights_value weights.now) weighed.now }
     requires place { place < length (chip_of basis.now).modules }
-    ensures cost { (c : Case) → IsCaseOf case.now c → IsModuleCost basis.now c (weights_value weights.now) place result }
+    ensures cost { (c : Case) → IsCaseOf case.now c →
+        IsModuleCost basis.now c (weights_value weights.now) place result }
     ensures small { IfSome result (λ n. n ≤ LEAF_COST_MOST) }
 {
     if !is_wired(basis, place) {
@@ -69,7 +70,8 @@ pub(crate) fn sum_of_least(
     requires weights { AreWeights (weights_value weights.now) }
     requires weighed { IsWeighed basis.now (weights_value weights.now) weighed.now }
     ensures cost { (c : Case) → IsCaseOf case.now c →
-        IsSumOfLeast basis.now c (weights_value weights.now) (length (chip_of basis.now).modules) result }
+        IsSumOfLeast basis.now c (weights_value weights.now) (length (chip_of basis.now).modules)
+        result }
     ensures small { IfSome result (λ n. n ≤ 1000 * LEAF_COST_MOST) }
 {
     let mut sum = 0;
@@ -109,7 +111,9 @@ pub(crate) fn worth_of_cycle(
     requires few { length weights.now.ranks.items ≤ 256 }
     requires weighed { IsWeighed basis.now (weights_value weights.now) weighed.now }
     ensures worth { (c : Case) → IsCaseOf case.now c →
-        result ≡ worth_of_cycle (limits_of basis.now).wires (lists_of basis.now) c (weights_value weights.now) }
+        result
+        ≡ worth_of_cycle (limits_of basis.now).wires (lists_of basis.now) c
+        (weights_value weights.now) }
     ensures small { result ≤ 2 ^ 121 }
 {
     let ranks = rank_sum(&weights.ranks);

@@ -48,7 +48,8 @@ pub(crate) struct CrowdMarks {
 
 /// Adds for each live test of a module whether it is over the wires.
 fn push_tams(tams: &mut Vec<bool>, module: &Module) -> Result<(), NoMemory>
-    ensures { OnOk result (tams.new.items ≡ tams.old.items ++ map (λ (t : Test). t.tam) (filter is_live «module».now.tests.items)) }
+    ensures { OnOk result (tams.new.items
+        ≡ tams.old.items ++ map (λ (t : Test). t.tam) (filter is_live «module».now.tests.items)) }
 {
     for test in &module.tests {
         if live(test) {
@@ -60,7 +61,8 @@ fn push_tams(tams: &mut Vec<bool>, module: &Module) -> Result<(), NoMemory>
 
 /// For each live test whether it is over the wires.
 fn all_tams(alloc: Global, soc: &Soc) -> Result<Vec<bool>, NoMemory>
-    ensures { IfOk result (λ tams. tams.items ≡ map (λ (l : LiveTest). l.test.tam) (live_tests (soc_value soc.now))) }
+    ensures { IfOk result
+        (λ tams. tams.items ≡ map (λ (l : LiveTest). l.test.tam) (live_tests (soc_value soc.now))) }
 {
     let mut tams = Vec::new(alloc);
     for place in 0..soc.modules.len() {
@@ -94,8 +96,10 @@ fn mark_name(names: &LiveTests, among: &mut Vec<bool>, id: TestId) -> Option<usi
     ensures found { IfSome result (λ place. position (same_test id) names.now ≡ Some place) }
     ensures within { IfSome result (λ place. place < length names.now) }
     ensures new { IfSome result (λ place. bit_at among.old.items place ≡ false) }
-    ensures marked { IfSome result (λ place. among.new.items ≡ slice_set among.old.items place true) }
-    ensures broken { IfNone result ((place : ℕ) → position (same_test id) names.now ≡ Some place → bit_at among.old.items place ≡ true) }
+    ensures marked { IfSome result
+        (λ place. among.new.items ≡ slice_set among.old.items place true) }
+    ensures broken { IfNone result ((place : ℕ) → position (same_test id) names.now ≡ Some place →
+        bit_at among.old.items place ≡ true) }
 {
     let place = names.place(id)?;
     if among[place] {
@@ -134,8 +138,8 @@ fn add_turn(
     requires rules { IsListRules rules.now }
     requires among { length marks.old.among.items ≡ length (live_tests (chip_ruled rules.now)) }
     requires apart { length marks.old.apart.items ≡ length (live_tests (chip_ruled rules.now)) }
-    ensures { IfOk result (λ kept. (earlier : List TestId) → AreTurnMarks rules.now earlier marks.old →
-        TurnAdded rules.now earlier id marks.new kept) }
+    ensures { IfOk result (λ kept. (earlier : List TestId) →
+        AreTurnMarks rules.now earlier marks.old → TurnAdded rules.now earlier id marks.new kept) }
 {
     let Some(place) = mark_name(rules.names, &mut marks.among, id) else {
         return Ok(false);
@@ -181,7 +185,8 @@ pub(crate) fn turn_marks(
 fn add_member(rules: &ListRules<'_>, id: TestId, marks: &mut CrowdMarks) -> Result<bool, NoMemory>
     requires rules { IsListRules rules.now }
     requires among { length marks.old.among.items ≡ length (live_tests (chip_ruled rules.now)) }
-    ensures { IfOk result (λ kept. (earlier : List TestId) → AreCrowdMarks rules.now earlier marks.old →
+    ensures { IfOk result
+        (λ kept. (earlier : List TestId) → AreCrowdMarks rules.now earlier marks.old →
         MemberAdded rules.now earlier id marks.new kept) }
 {
     let Some(place) = mark_name(rules.names, &mut marks.among, id) else {

@@ -51,7 +51,8 @@ fn push_members(roles: &mut Vec<Role>, among: &[bool]) -> Result<(), NoMemory>
 
 /// Puts for each live test that it is in a list by its power.
 fn push_drawing(roles: &mut Vec<Role>, tams: &[bool]) -> Result<(), NoMemory>
-    ensures { OnOk result (roles.new.items ≡ roles.old.items ++ map (λ (tam : Bool). Drawing) tams.now) }
+    ensures { OnOk result
+        (roles.new.items ≡ roles.old.items ++ map (λ (tam : Bool). Drawing) tams.now) }
 {
     for _tam in tams {
         push(roles, Role::Drawing)?;
@@ -81,7 +82,8 @@ fn push_turns_on(
     requires rules { IsListRules rules.now }
     requires among { length marks.now.among.items ≡ length rules.now.tams.items }
     requires apart { length marks.now.apart.items ≡ length rules.now.tams.items }
-    ensures { OnOk result ((rank : ℕ) (tests : List TestId) → AreTurnMarks rules.now tests marks.now →
+    ensures { OnOk result
+        ((rank : ℕ) (tests : List TestId) → AreTurnMarks rules.now tests marks.now →
         roles.new.items ≡ roles.old.items ++ roles_in rules.now (OfTurnsOn rank tests)) }
 {
     for place in 0..rules.tams.len() {
@@ -99,7 +101,8 @@ fn add_turns(
     roles: &mut Vec<Role>,
 ) -> Result<bool, NoMemory>
     requires { IsListRules rules.now }
-    ensures { IfOk result (ListAdded rules.now (OfTurns tests.now) roles.old.items roles.new.items) }
+    ensures { IfOk result
+        (ListAdded rules.now (OfTurns tests.now) roles.old.items roles.new.items) }
 {
     let Some(marks) = turn_marks(alloc, rules, tests)? else {
         return Ok(false);
@@ -116,7 +119,8 @@ fn add_turns_on(
     roles: &mut Vec<Role>,
 ) -> Result<bool, NoMemory>
     requires { IsListRules rules.now }
-    ensures { IfOk result (λ kept. (rank : ℕ) → ListAdded rules.now (OfTurnsOn rank tests.now) roles.old.items roles.new.items kept) }
+    ensures { IfOk result (λ kept. (rank : ℕ) →
+        ListAdded rules.now (OfTurnsOn rank tests.now) roles.old.items roles.new.items kept) }
 {
     let Some(marks) = turn_marks(alloc, rules, tests)? else {
         return Ok(false);
@@ -134,7 +138,8 @@ fn add_crowd(
     roles: &mut Vec<Role>,
 ) -> Result<bool, NoMemory>
     requires { IsListRules rules.now }
-    ensures { IfOk result (ListAdded rules.now (OfCrowd most tests.now) roles.old.items roles.new.items) }
+    ensures { IfOk result
+        (ListAdded rules.now (OfCrowd most tests.now) roles.old.items roles.new.items) }
 {
     let Some(marks) = crowd_marks(alloc, rules, tests)? else {
         return Ok(false);
@@ -166,7 +171,8 @@ fn add_list(
     roles: &mut Vec<Role>,
 ) -> Result<bool, NoMemory>
     requires { IsListRules rules.now }
-    ensures { IfOk result (ListAdded rules.now (list_value list.now) roles.old.items roles.new.items) }
+    ensures { IfOk result
+        (ListAdded rules.now (list_value list.now) roles.old.items roles.new.items) }
 {
     match list {
         TestList::Turns { tests } => add_turns(alloc, rules, tests, roles),
@@ -184,9 +190,10 @@ fn add_lists(
     roles: &mut Vec<Role>,
 ) -> Result<usize, NoMemory>
     requires { IsListRules rules.now }
-    ensures first { IfOk result (KeepFirst (chip_ruled rules.now) (limits_ruled rules.now) (map list_value lists.now)) }
-    ensures roles { IfOk result (λ kept.
-        roles.new.items ≡ roles.old.items ++ flat_map (roles_in rules.now) (take kept (map list_value lists.now))) }
+    ensures first { IfOk result
+        (KeepFirst (chip_ruled rules.now) (limits_ruled rules.now) (map list_value lists.now)) }
+    ensures roles { IfOk result (λ kept. roles.new.items
+        ≡ roles.old.items ++ flat_map (roles_in rules.now) (take kept (map list_value lists.now))) }
 {
     for place in 0..lists.len() {
         if !add_list(alloc, rules, &lists[place], roles)? {
@@ -202,7 +209,8 @@ pub(crate) fn list_table(
     problem: &Problem<'_>,
     lists: &[TestList],
 ) -> Result<ListTable, NoMemory>
-    ensures { IfOk result (IsListTable problem.now.soc problem.now.limits (map list_value lists.now)) }
+    ensures { IfOk result
+        (IsListTable problem.now.soc problem.now.limits (map list_value lists.now)) }
 {
     let rules = ListRules::new(alloc, problem)?;
     let mut roles = Vec::new(alloc);

@@ -63,9 +63,11 @@ fn pays_too_much(
     requires room { IsBusesRoom basis.now (pricing_value pricing.now) room.old }
     requires some { (c : Case) → IsCaseOf case.now c → IsEmpty (limits_of basis.now).wires c → ⊥ }
     ensures yes { result ≡ true → (c : Case) → IsCaseOf case.now c →
-        PaysTooMuch (chip_of basis.now) (limits_of basis.now) (lists_of basis.now) (claim_of basis.now) c (pricing_value pricing.now) }
+        PaysTooMuch (chip_of basis.now) (limits_of basis.now) (lists_of basis.now)
+        (claim_of basis.now) c (pricing_value pricing.now) }
     ensures no { result ≡ false → (c : Case) → IsCaseOf case.now c →
-        PaysTooMuch (chip_of basis.now) (limits_of basis.now) (lists_of basis.now) (claim_of basis.now) c (pricing_value pricing.now) → ⊥ }
+        PaysTooMuch (chip_of basis.now) (limits_of basis.now) (lists_of basis.now)
+        (claim_of basis.now) c (pricing_value pricing.now) → ⊥ }
     ensures room { IsBusesRoom basis.now (pricing_value pricing.now) room.new }
     ensures work { room.new.work ≡ room.old.work }
     ensures places { room.new.bus.places ≡ room.old.bus.places }
@@ -85,8 +87,10 @@ fn all_have_slots(basis: &Basis<'_>, case: &CaseRoom, room: &LeafRoom) -> bool
     requires known { (c : Case) × IsCaseOf case.now c }
     requires nothing { weights_value room.now.nothing ≡ no_weights }
     requires ready { IsWeighed basis.now no_weights room.now.weighed }
-    ensures yes { result ≡ true → (c : Case) → IsCaseOf case.now c → HasNoBusIn basis.now c no_weights → ⊥ }
-    ensures no { result ≡ false → (c : Case) → IsCaseOf case.now c → HasNoBusIn basis.now c no_weights }
+    ensures yes { result ≡ true → (c : Case) → IsCaseOf case.now c →
+        HasNoBusIn basis.now c no_weights → ⊥ }
+    ensures no { result ≡ false → (c : Case) → IsCaseOf case.now c →
+        HasNoBusIn basis.now c no_weights }
 {
     match sum_of_least(basis, &room.weighed, case, &room.nothing) {
         Some(_) => true,
@@ -97,8 +101,10 @@ fn all_have_slots(basis: &Basis<'_>, case: &CaseRoom, room: &LeafRoom) -> bool
 /// Notes the work of a leaf, where there is no more of it than may be.
 fn note_work(room: &mut PackRoom, work: u128) -> bool
     requires { room.old.work ≤ WORK_MOST }
-    ensures yes { result ≡ true → (room.old.work + work ≤ WORK_MOST) × (room.new.work ≡ room.old.work + work) }
-    ensures no { result ≡ false → (room.old.work + work ≤ WORK_MOST → ⊥) × (room.new.work ≡ room.old.work) }
+    ensures yes { result ≡ true →
+        (room.old.work + work ≤ WORK_MOST) × (room.new.work ≡ room.old.work + work) }
+    ensures no { result ≡ false →
+        (room.old.work + work ≤ WORK_MOST → ⊥) × (room.new.work ≡ room.old.work) }
     ensures bus { room.new.bus ≡ room.old.bus }
     ensures wires { room.new.wires ≡ room.old.wires }
     ensures worth { room.new.worth ≡ room.old.worth }
@@ -118,7 +124,8 @@ fn pack_work(case: &CaseRoom, pricing: &Pricing, cells: u64) -> u128
     requires cells { cells ≤ 4096 }
     requires lists { length pricing.now.lists.items ≤ 2 ^ 24 }
     requires prices { length pricing.now.prices.items ≤ 2 ^ 24 }
-    ensures work { (c : Case) (claim : ℕ) → IsCaseOf case.now c → cells ≡ cells_of claim (pricing_value pricing.now) →
+    ensures work { (c : Case) (claim : ℕ) → IsCaseOf case.now c →
+        cells ≡ cells_of claim (pricing_value pricing.now) →
         result ≡ pack_work case.now.widths.wires claim c (pricing_value pricing.now) }
 {
     if is_empty(&case.widths) {
@@ -135,14 +142,20 @@ fn keeps_rule(basis: &Basis<'_>, case: &CaseRoom, pricing: &Pricing, room: &mut 
     requires known { (c : Case) × IsCaseOf case.now c }
     requires prices { ArePrices (pricing_value pricing.now) }
     requires few { max (length pricing.now.lists.items) (length pricing.now.prices.items) ≤ 2 ^ 24 }
-    requires places { max (length pricing.now.lists.items) (length pricing.now.prices.items) ≤ length room.old.bus.places.items }
+    requires places { max (length pricing.now.lists.items) (length pricing.now.prices.items)
+        ≤ length room.old.bus.places.items }
     requires space { HasPackSpace basis.now room.old }
-    ensures yes { result ≡ true → (c : Case) → IsCaseOf case.now c → IsPack (chip_of basis.now) (limits_of basis.now).wires
-        (lists_of basis.now) (claim_of basis.now) room.old.work c (pricing_value pricing.now) }
-    ensures no { result ≡ false → (c : Case) → IsCaseOf case.now c → IsPack (chip_of basis.now) (limits_of basis.now).wires
-        (lists_of basis.now) (claim_of basis.now) room.old.work c (pricing_value pricing.now) → ⊥ }
-    ensures work { result ≡ true → (c : Case) → IsCaseOf case.now c → room.new.work ≡ room.old.work +
-        pack_work (limits_of basis.now).wires (claim_of basis.now) c (pricing_value pricing.now) }
+    ensures yes { result ≡ true → (c : Case) → IsCaseOf case.now c →
+        IsPack (chip_of basis.now) (limits_of basis.now).wires (lists_of basis.now)
+        (claim_of basis.now) room.old.work c (pricing_value pricing.now) }
+    ensures no { result ≡ false → (c : Case) → IsCaseOf case.now c →
+        IsPack (chip_of basis.now) (limits_of basis.now).wires (lists_of basis.now)
+        (claim_of basis.now) room.old.work c (pricing_value pricing.now) → ⊥ }
+    ensures work { result ≡ true → (c : Case) → IsCaseOf case.now c →
+        room.new.work
+        ≡ room.old.work
+        + pack_work (limits_of basis.now).wires (claim_of basis.now) c
+        (pricing_value pricing.now) }
     ensures room { result ≡ true → IsBusesRoom basis.now (pricing_value pricing.now) room.new }
     ensures space { HasPackSpace basis.now room.new }
     ensures long { length room.new.bus.places.items ≡ length room.old.bus.places.items }
@@ -175,14 +188,18 @@ pub fn check_pack(
     requires known { (c : Case) × IsCaseOf case.now c }
     requires prices { ArePrices (pricing_value pricing.now) }
     requires few { max (length pricing.now.lists.items) (length pricing.now.prices.items) ≤ 2 ^ 24 }
-    requires places { max (length pricing.now.lists.items) (length pricing.now.prices.items) ≤ length room.old.pack.bus.places.items }
+    requires places { max (length pricing.now.lists.items) (length pricing.now.prices.items)
+        ≤ length room.old.pack.bus.places.items }
     requires space { HasLeafSpace basis.now room.old }
     ensures answer { (c : Case) → IsCaseOf case.now c →
         IsLeafAnswer basis.now room.old.pack.work c (OfPack (pricing_value pricing.now)) result }
     ensures space { HasLeafSpace basis.now room.new }
     ensures long { length room.new.pack.bus.places.items ≡ length room.old.pack.bus.places.items }
-    ensures work { (result ≡ LeafAnswer.Broken → ⊥) → (c : Case) → IsCaseOf case.now c → room.new.pack.work ≡ room.old.pack.work +
-        pack_work (limits_of basis.now).wires (claim_of basis.now) c (pricing_value pricing.now) }
+    ensures work { (result ≡ LeafAnswer.Broken → ⊥) → (c : Case) → IsCaseOf case.now c →
+        room.new.pack.work
+        ≡ room.old.pack.work
+        + pack_work (limits_of basis.now).wires (claim_of basis.now) c
+        (pricing_value pricing.now) }
 {
     if !keeps_rule(basis, case, pricing, &mut room.pack) {
         return LeafAnswer::Broken;

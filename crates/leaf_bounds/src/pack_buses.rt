@@ -112,7 +112,8 @@ fn net_worth(
     requires some_wire { 1 ≤ bus.width }
     requires width { bus.width ≤ (limits_of basis.now).wires }
     requires weighed { (weights : WeightsValue) × IsWeighed basis.now weights weighed.now }
-    ensures net { (c : Case) (pricing : PricingValue) → IsCaseOf case.now c → IsWeighed basis.now (list_weights pricing) weighed.now →
+    ensures net { (c : Case) (pricing : PricingValue) → IsCaseOf case.now c →
+        IsWeighed basis.now (list_weights pricing) weighed.now →
         result ≡ net_at basis.now c pricing item.place item.price bus.rank bus.width }
     ensures small { result ≤ item.price }
 {
@@ -128,7 +129,8 @@ fn cells_taken(basis: &Basis<'_>, grain: u64, place: usize, width: u64) -> usize
     requires place { place < length (chip_of basis.now).modules }
     requires some_wire { 1 ≤ width }
     requires few_wires { width ≤ (limits_of basis.now).wires }
-    ensures { (pricing : PricingValue) → pricing.grain ≡ grain → result ≡ cells_taken (chip_of basis.now) pricing place width }
+    ensures { (pricing : PricingValue) → pricing.grain ≡ grain →
+        result ≡ cells_taken (chip_of basis.now) pricing place width }
 {
     (basis.times.tam_time(place, width) / grain) as usize
 }
@@ -163,14 +165,18 @@ fn add_priced(
     requires place { item.place < length (chip_of basis.now).modules }
     requires few { (claim_of basis.now - 1) / grain ≤ 4096 }
     requires room { (claim_of basis.now - 1) / grain < length row.old }
-    requires small { (x : ℕ) → x < (claim_of basis.now - 1) / grain + 1 → slice_index row.old x + item.price ≤ 10 ^ 18 }
+    requires small { (x : ℕ) → x < (claim_of basis.now - 1) / grain + 1 →
+        slice_index row.old x + item.price ≤ 10 ^ 18 }
     ensures long { length row.new ≡ length row.old }
-    ensures row { (c : Case) (pricing : PricingValue) → IsCaseOf case.now c → pricing.grain ≡ grain →
-        IsWeighed basis.now (list_weights pricing) weighed.now →
-        (x : ℕ) → x < (claim_of basis.now - 1) / grain + 1 → slice_index row.new x ≡
-        with_item (has_slot (chip_of basis.now) (claim_of basis.now) c item.place bus.rank bus.width)
+    ensures row { (c : Case) (pricing : PricingValue) → IsCaseOf case.now c →
+        pricing.grain ≡ grain → IsWeighed basis.now (list_weights pricing) weighed.now → (x : ℕ) →
+        x < (claim_of basis.now - 1) / grain + 1 →
+        slice_index row.new x
+        ≡ with_item
+        (has_slot (chip_of basis.now) (claim_of basis.now) c item.place bus.rank bus.width)
         (cells_taken (chip_of basis.now) pricing item.place bus.width)
-        (net_at basis.now c pricing item.place item.price bus.rank bus.width) (slice_index row.old) x }
+        (net_at basis.now c pricing item.place item.price bus.rank bus.width)
+        (slice_index row.old) x }
 {
     if !has_slot(basis, case, item.place, bus) {
         return;
@@ -193,7 +199,8 @@ fn bus_most(
     requires leaf { IsPackLeaf basis.now case.now weighed.now (pricing_value pricing.now) }
     requires room { IsBusRoom basis.now (pricing_value pricing.now) room.old }
     requires width { bus.width ≤ (limits_of basis.now).wires }
-    ensures most { (c : Case) → IsCaseOf case.now c → result ≡ bus_most basis.now c (pricing_value pricing.now) bus.rank bus.width }
+    ensures most { (c : Case) → IsCaseOf case.now c →
+        result ≡ bus_most basis.now c (pricing_value pricing.now) bus.rank bus.width }
     ensures small { result ≤ 10 ^ 18 }
     ensures room { IsBusRoom basis.now (pricing_value pricing.now) room.new }
     ensures places { room.new.places ≡ room.old.places }
@@ -231,8 +238,8 @@ fn is_worth_same(
     requires some_wire { 1 ≤ before }
     requires before { before ≤ bus.width }
     requires place { item.place < length (chip_of basis.now).modules }
-    ensures { result ≡ true → (c : Case) (pricing : PricingValue) → IsCaseOf case.now c → pricing.grain ≡ grain →
-        IsWeighed basis.now (list_weights pricing) weighed.now →
+    ensures { result ≡ true → (c : Case) (pricing : PricingValue) → IsCaseOf case.now c →
+        pricing.grain ≡ grain → IsWeighed basis.now (list_weights pricing) weighed.now →
         IsLikeItem basis.now c pricing item.place item.price bus.rank bus.width bus.rank before }
 {
     let narrow = RankBus {
@@ -272,8 +279,8 @@ fn is_like_item(
     requires some_wire { 1 ≤ before }
     requires before { before ≤ bus.width }
     requires place { item.place < length (chip_of basis.now).modules }
-    ensures { result ≡ true → (c : Case) (pricing : PricingValue) → IsCaseOf case.now c → pricing.grain ≡ grain →
-        IsWeighed basis.now (list_weights pricing) weighed.now →
+    ensures { result ≡ true → (c : Case) (pricing : PricingValue) → IsCaseOf case.now c →
+        pricing.grain ≡ grain → IsWeighed basis.now (list_weights pricing) weighed.now →
         IsLikeItem basis.now c pricing item.place item.price bus.rank bus.width bus.rank before }
 {
     packed_times_are_least();
@@ -399,7 +406,8 @@ fn keep_for(
     ensures rank { kept.new.rank ≡ rank }
     ensures long { length kept.new.worths.items ≡ length kept.old.worths.items }
     ensures kept { (width worth : ℕ) → IsKeptAt kept.new width worth →
-        IsKeptAt kept.old width worth × IsLikeRank case.now weighed.now places.now count kept.old.rank rank }
+        IsKeptAt kept.old width worth
+        × IsLikeRank case.now weighed.now places.now count kept.old.rank rank }
 {
     if is_like_rank(weighed, case, places, count, kept.rank, rank) {
         kept.rank = rank;
@@ -430,7 +438,8 @@ fn known_worth(
     requires kept { AreKept basis.now case.now (pricing_value pricing.now) room.now.kept }
     requires rank { room.now.kept.rank ≡ bus.rank }
     requires width { bus.width ≤ (limits_of basis.now).wires }
-    ensures { IfSome result (IsWorth basis.now case.now (pricing_value pricing.now) bus.rank bus.width) }
+    ensures { IfSome result
+        (IsWorth basis.now case.now (pricing_value pricing.now) bus.rank bus.width) }
 {
     if let Some(worth) = kept_at(&room.kept, bus.width) {
         return Some(worth);
@@ -462,7 +471,8 @@ fn found_worth(
     requires kept { AreKept basis.now case.now (pricing_value pricing.now) room.old.kept }
     requires rank { room.old.kept.rank ≡ bus.rank }
     requires width { bus.width ≤ (limits_of basis.now).wires }
-    ensures worth { IsWorth basis.now case.now (pricing_value pricing.now) bus.rank bus.width result }
+    ensures worth { IsWorth basis.now case.now (pricing_value pricing.now) bus.rank bus.width
+        result }
     ensures room { IsBusRoom basis.now (pricing_value pricing.now) room.new.bus }
     ensures places { room.new.bus.places ≡ room.old.bus.places }
     ensures kept { room.new.kept ≡ room.old.kept }
@@ -490,7 +500,8 @@ fn kept_worth(
     requires kept { AreKept basis.now case.now (pricing_value pricing.now) room.old.kept }
     requires rank { room.old.kept.rank ≡ bus.rank }
     requires width { bus.width ≤ (limits_of basis.now).wires }
-    ensures worth { IsWorth basis.now case.now (pricing_value pricing.now) bus.rank bus.width result }
+    ensures worth { IsWorth basis.now case.now (pricing_value pricing.now) bus.rank bus.width
+        result }
     ensures small { result ≤ 10 ^ 18 }
     ensures room { IsBusesRoom basis.now (pricing_value pricing.now) room.new }
     ensures kept { AreKept basis.now case.now (pricing_value pricing.now) room.new.kept }
@@ -520,7 +531,8 @@ fn note_worths(
     requires kept { AreKept basis.now case.now (pricing_value pricing.now) room.old.kept }
     requires width { least.width + span ≤ (limits_of basis.now).wires }
     ensures worths { (c : Case) → IsCaseOf case.now c → (d : ℕ) → d ≤ span →
-        slice_index room.new.worth.items d ≡ bus_most basis.now c (pricing_value pricing.now) least.rank (least.width + d) }
+        slice_index room.new.worth.items d
+        ≡ bus_most basis.now c (pricing_value pricing.now) least.rank (least.width + d) }
     ensures small { (d : ℕ) → d ≤ span → slice_index room.new.worth.items d ≤ 10 ^ 18 }
     ensures room { IsBusesRoom basis.now (pricing_value pricing.now) room.new }
     ensures kept { AreKept basis.now case.now (pricing_value pricing.now) room.new.kept }
@@ -556,8 +568,10 @@ fn rest_row(
 )
     requires leaf { IsPackLeaf basis.now case.now weighed.now (pricing_value pricing.now) }
     requires room { IsBusesRoom basis.now (pricing_value pricing.now) room.old }
-    ensures row { (c : Case) → IsCaseOf case.now c → IsWiresRow basis.now c (pricing_value pricing.now) 0 room.new.wires.items }
-    ensures small { (x : ℕ) → x ≤ spare (limits_of basis.now).wires case.now.widths.intervals.items →
+    ensures row { (c : Case) → IsCaseOf case.now c →
+        IsWiresRow basis.now c (pricing_value pricing.now) 0 room.new.wires.items }
+    ensures small { (x : ℕ) →
+        x ≤ spare (limits_of basis.now).wires case.now.widths.intervals.items →
         slice_index room.new.wires.items x ≤ 300 * 10 ^ 18 }
     ensures room { IsBusesRoom basis.now (pricing_value pricing.now) room.new }
     ensures kept { AreKept basis.now case.now (pricing_value pricing.now) room.new.kept }
@@ -591,11 +605,14 @@ fn rank_row(
     requires some { (c : Case) → IsCaseOf case.now c → IsEmpty (limits_of basis.now).wires c → ⊥ }
     requires rank { rank < length case.now.widths.intervals.items }
     requires few { rank < 256 }
-    requires small { (x : ℕ) → x ≤ spare (limits_of basis.now).wires case.now.widths.intervals.items →
+    requires small { (x : ℕ) →
+        x ≤ spare (limits_of basis.now).wires case.now.widths.intervals.items →
         slice_index room.old.wires.items x ≤ (300 + rank) * 10 ^ 18 }
-    ensures row { (c : Case) → IsCaseOf case.now c → IsWiresRow basis.now c (pricing_value pricing.now) rank room.old.wires.items →
+    ensures row { (c : Case) → IsCaseOf case.now c →
+        IsWiresRow basis.now c (pricing_value pricing.now) rank room.old.wires.items →
         IsWiresRow basis.now c (pricing_value pricing.now) (rank + 1) room.new.wires.items }
-    ensures small { (x : ℕ) → x ≤ spare (limits_of basis.now).wires case.now.widths.intervals.items →
+    ensures small { (x : ℕ) →
+        x ≤ spare (limits_of basis.now).wires case.now.widths.intervals.items →
         slice_index room.new.wires.items x ≤ (301 + rank) * 10 ^ 18 }
     ensures room { IsBusesRoom basis.now (pricing_value pricing.now) room.new }
     ensures kept { AreKept basis.now case.now (pricing_value pricing.now) room.new.kept }
@@ -624,8 +641,9 @@ pub(crate) fn most_filled(
     requires leaf { IsPackLeaf basis.now case.now weighed.now (pricing_value pricing.now) }
     requires room { IsBusesRoom basis.now (pricing_value pricing.now) room.old }
     requires some { (c : Case) → IsCaseOf case.now c → IsEmpty (limits_of basis.now).wires c → ⊥ }
-    ensures most { (c : Case) → IsCaseOf case.now c → IsMostFilled (chip_of basis.now) (limits_of basis.now)
-        (lists_of basis.now) (claim_of basis.now) c (pricing_value pricing.now) result }
+    ensures most { (c : Case) → IsCaseOf case.now c →
+        IsMostFilled (chip_of basis.now) (limits_of basis.now) (lists_of basis.now)
+        (claim_of basis.now) c (pricing_value pricing.now) result }
     ensures small { result ≤ 600 * 10 ^ 18 }
     ensures room { IsBusesRoom basis.now (pricing_value pricing.now) room.new }
     ensures work { room.new.work ≡ room.old.work }

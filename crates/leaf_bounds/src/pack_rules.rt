@@ -33,8 +33,10 @@ fn number_at(prices: &[(u64, u64)], at: usize) -> u64
 /// Whether one of the first `count` modules has this number.
 fn is_priced(prices: &[(u64, u64)], count: usize, number: u64) -> bool
     requires { count ≤ length prices.now }
-    ensures yes { result ≡ true → (q : ℕ) × (q < count) × (slice_index (numbers_priced prices.now) q ≡ number) }
-    ensures no { result ≡ false → (q : ℕ) → q < count → slice_index (numbers_priced prices.now) q ≡ number → ⊥ }
+    ensures yes { result ≡ true →
+        (q : ℕ) × (q < count) × (slice_index (numbers_priced prices.now) q ≡ number) }
+    ensures no { result ≡ false → (q : ℕ) → q < count →
+        slice_index (numbers_priced prices.now) q ≡ number → ⊥ }
 {
     for at in 0..count {
         if number_at(prices, at) == number {
@@ -73,7 +75,8 @@ pub(crate) fn are_priced_once(
     ensures long { length places.new ≡ length places.old }
     ensures yes { result ≡ true → ArePricedOnce (chip_of basis.now) prices.now }
     ensures no { result ≡ false → ArePricedOnce (chip_of basis.now) prices.now → ⊥ }
-    ensures places { result ≡ true → ArePlaces (chip_of basis.now) prices.now (length prices.now) places.new }
+    ensures places { result ≡ true →
+        ArePlaces (chip_of basis.now) prices.now (length prices.now) places.new }
 {
     for at in 0..prices.len() {
         match new_place(basis, prices, at) {
@@ -123,7 +126,8 @@ pub(crate) fn work_in(case: &CaseRoom, pricing: &Pricing, cells: u64) -> u128
     requires cells { cells ≤ 4096 }
     requires lists { length (pricing_value pricing.now).lists ≤ 2 ^ 24 }
     requires prices { length (pricing_value pricing.now).prices ≤ 2 ^ 24 }
-    ensures work { (c : Case) (claim : ℕ) → IsCaseOf case.now c → cells ≡ cells_of claim (pricing_value pricing.now) →
+    ensures work { (c : Case) (claim : ℕ) → IsCaseOf case.now c →
+        cells ≡ cells_of claim (pricing_value pricing.now) →
         result ≡ work_in case.now.widths.wires claim c (pricing_value pricing.now) }
     ensures small { result ≤ 2 ^ 80 }
 {

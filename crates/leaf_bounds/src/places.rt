@@ -30,7 +30,8 @@ fn take_rank(ranks: &mut Ranks, at: Placing, rank: usize)
     requires at { HasPlace ranks.old.may.items at }
     requires rank { rank < at.known }
     ensures space { HasSpace ranks.new }
-    ensures may { ranks.new.may.items ≡ slice_set ranks.old.may.items (bit_place at.modules at.place rank) false }
+    ensures may { ranks.new.may.items
+        ≡ slice_set ranks.old.may.items (bit_place at.modules at.place rank) false }
     ensures after { IsAfter ranks.old ranks.new }
 {
     take_away(ranks, (rank + 1) * at.modules + at.place);
@@ -42,7 +43,9 @@ fn take_other(ranks: &mut Ranks, at: Placing, rank: usize, kept: usize)
     requires at { HasPlace ranks.old.may.items at }
     requires rank { rank < at.known }
     ensures space { HasSpace ranks.new }
-    ensures taken { rank ≢ kept → ranks.new.may.items ≡ slice_set ranks.old.may.items (bit_place at.modules at.place rank) false }
+    ensures taken { rank ≢ kept →
+        ranks.new.may.items
+        ≡ slice_set ranks.old.may.items (bit_place at.modules at.place rank) false }
     ensures kept { rank ≡ kept → ranks.new.may.items ≡ ranks.old.may.items }
     ensures after { IsAfter ranks.old ranks.new }
 {
@@ -57,7 +60,8 @@ fn take_others(ranks: &mut Ranks, at: Placing, kept: usize)
     requires space { HasSpace ranks.old }
     requires at { HasPlace ranks.old.may.items at }
     ensures space { HasSpace ranks.new }
-    ensures without { IsWithout at.modules at.place (λ q. (q < at.known) × (q ≢ kept)) ranks.old.may.items ranks.new.may.items }
+    ensures without { IsWithout at.modules at.place (λ q. (q < at.known) × (q ≢ kept))
+        ranks.old.may.items ranks.new.may.items }
     ensures after { IsAfter ranks.old ranks.new }
 {
     for rank in 0..at.known {
@@ -70,7 +74,8 @@ pub(crate) fn place_on(ranks: &mut Ranks, at: Placing, rank: usize)
     requires space { HasSpace ranks.old }
     requires at { HasPlace ranks.old.may.items at }
     ensures space { HasSpace ranks.new }
-    ensures placed { (c : Case) → known_ranks c ≡ at.known → HasBits at.modules ranks.old.may.items c →
+    ensures placed { (c : Case) → known_ranks c ≡ at.known →
+        HasBits at.modules ranks.old.may.items c →
         HasBits at.modules ranks.new.may.items (placed_on c rank at.place) }
     ensures after { IsAfter ranks.old ranks.new }
 {
@@ -84,7 +89,8 @@ fn take_ranks(ranks: &mut Ranks, at: Placing, off: &[u64])
     requires at { HasPlace ranks.old.may.items at }
     requires off { All (λ q. q < at.known) off.now }
     ensures space { HasSpace ranks.new }
-    ensures without { IsWithout at.modules at.place (IsNamed off.now) ranks.old.may.items ranks.new.may.items }
+    ensures without { IsWithout at.modules at.place (IsNamed off.now) ranks.old.may.items
+        ranks.new.may.items }
     ensures after { IsAfter ranks.old ranks.new }
 {
     for rank in off {
@@ -99,7 +105,8 @@ pub(crate) fn place_off(ranks: &mut Ranks, at: Placing, rank: usize, twins: &[u6
     requires rank { rank < at.known }
     requires twins { All (λ q. q < at.known) twins.now }
     ensures space { HasSpace ranks.new }
-    ensures placed { (c : Case) → known_ranks c ≡ at.known → HasBits at.modules ranks.old.may.items c →
+    ensures placed { (c : Case) → known_ranks c ≡ at.known →
+        HasBits at.modules ranks.old.may.items c →
         HasBits at.modules ranks.new.may.items (placed_off c (rank ∷ twins.now) at.place) }
     ensures after { IsAfter ranks.old ranks.new }
 {

@@ -132,7 +132,8 @@ pub(crate) fn takings(ranks: &Ranks) -> usize
 
 /// Gives back all places that were noted but the first `kept`.
 fn undo_takings(ranks: &mut Ranks, kept: usize)
-    ensures { (before : Ranks) → length before.trail.items ≡ kept → IsAfter before ranks.old → IsGivenBack before ranks.new }
+    ensures { (before : Ranks) → length before.trail.items ≡ kept → IsAfter before ranks.old →
+        IsGivenBack before ranks.new }
 {
     let count = takings(ranks);
     for step in kept..count {
@@ -142,8 +143,9 @@ fn undo_takings(ranks: &mut Ranks, kept: usize)
 
 /// Gives back all places that were noted but the first `kept`, and leaves out the ranks behind the first `places` places.
 pub(crate) fn undo_ranks(ranks: &mut Ranks, kept: usize, places: usize)
-    ensures { (before : Ranks) → length before.trail.items ≡ kept → length before.may.items ≡ places →
-        HasSpace before → IsAfter before ranks.old → IsRestored before ranks.new }
+    ensures { (before : Ranks) → length before.trail.items ≡ kept →
+        length before.may.items ≡ places → HasSpace before → IsAfter before ranks.old →
+        IsRestored before ranks.new }
 {
     undo_takings(ranks, kept);
     ranks.may.truncate(places);

@@ -48,7 +48,8 @@ fn test_place(
     ensures module { result.«module» ≡ place }
     ensures test { result.test ≡ test }
     ensures profile { (t : Test) → slice_get «module».now.tests.items test ≡ Some t →
-        result.profile ≡ position (λ (p : Profile). same_test p.test (name_in (module_value «module».now) t))
+        result.profile
+        ≡ position (λ (p : Profile). same_test p.test (name_in (module_value «module».now) t))
         limits.now.profiles.items }
 {
     let id = TestId {
@@ -72,9 +73,11 @@ fn push_tests(
     module: &Module,
 ) -> Result<(), NoMemory>
     requires profiles { AreProfilePlaces resolved.now.profiles limits.now.profiles.items }
-    ensures { (soc : SocValue) (ls : List LiveTest) → slice_get soc.modules place ≡ Some (module_value «module».now) →
+    ensures { (soc : SocValue) (ls : List LiveTest) →
+        slice_get soc.modules place ≡ Some (module_value «module».now) →
         AreTestsAt soc limits.now ls tests.old.items →
-        OnOk result (AreTestsAt soc limits.now (ls ++ live_of place (module_value «module».now)) tests.new.items) }
+        OnOk result (AreTestsAt soc limits.now (ls ++ live_of place (module_value «module».now))
+        tests.new.items) }
 {
     for test in 0..module.tests.len() {
         if live(&module.tests[test]) {

@@ -21,7 +21,8 @@ fn is_alike(ranks: &Ranks, wired: &[bool], at: Placing, rank: usize, twin: usize
     requires rank { rank < at.known }
     requires twin { twin < at.known }
     ensures yes { result ≡ true → bit_at wired.now at.place ≡ true →
-        bit_at ranks.now.may.items (bit_place at.modules at.place twin) ≡ bit_at ranks.now.may.items (bit_place at.modules at.place rank) }
+        bit_at ranks.now.may.items (bit_place at.modules at.place twin)
+        ≡ bit_at ranks.now.may.items (bit_place at.modules at.place rank) }
     ensures no { result ≡ false → IsUnlike at.modules wired.now ranks.now.may.items rank twin }
 {
     if !is_marked(wired, at.place) {
@@ -39,8 +40,10 @@ pub fn are_alike(ranks: &Ranks, wired: &[bool], known: usize, rank: usize, twin:
     requires long { length ranks.now.may.items ≡ (known + 1) * length wired.now }
     requires rank { rank < known }
     requires twin { twin < known }
-    ensures yes { result ≡ true → AreAlike (length wired.now) wired.now ranks.now.may.items rank twin (length wired.now) }
-    ensures no { result ≡ false → IsUnlike (length wired.now) wired.now ranks.now.may.items rank twin }
+    ensures yes { result ≡ true →
+        AreAlike (length wired.now) wired.now ranks.now.may.items rank twin (length wired.now) }
+    ensures no { result ≡ false →
+        IsUnlike (length wired.now) wired.now ranks.now.may.items rank twin }
 {
     let modules = wired.len();
     for place in 0..modules {

@@ -81,7 +81,8 @@ pub fn interval_at(widths: &Widths, rank: usize) -> Interval
 fn put_interval(widths: &mut Widths, rank: usize, old: Interval, interval: Interval)
     requires rank { rank < length widths.old.intervals.items }
     requires room { length widths.old.trail.items < vec_capacity widths.old.trail }
-    ensures intervals { widths.new.intervals.items ≡ slice_set widths.old.intervals.items rank interval }
+    ensures intervals { widths.new.intervals.items
+        ≡ slice_set widths.old.intervals.items rank interval }
     ensures trail { widths.new.trail.items ≡ widths.old.trail.items ++ Was rank old ∷ [] }
     ensures wires { widths.new.wires ≡ widths.old.wires }
     ensures most { widths.new.most ≡ widths.old.most }
@@ -100,7 +101,8 @@ fn narrow_rank(widths: &mut Widths, rank: usize, interval: Interval)
     requires rank { rank < length widths.old.intervals.items }
     requires within { IsPart interval (interval_of widths.old.intervals.items rank) }
     ensures roomy { IsRoomy widths.new }
-    ensures intervals { widths.new.intervals.items ≡ slice_set widths.old.intervals.items rank interval }
+    ensures intervals { widths.new.intervals.items
+        ≡ slice_set widths.old.intervals.items rank interval }
     ensures later { IsLater widths.old widths.new }
 {
     let old = interval_at(widths, rank);
@@ -153,7 +155,8 @@ fn has_no_width(interval: Interval) -> bool
 /// Whether a known rank has no width.
 fn any_without_width(widths: &Widths) -> bool
     ensures yes { result ≡ true → HasGap widths.now.intervals.items }
-    ensures no { result ≡ false → HasNoGap widths.now.intervals.items (length widths.now.intervals.items) }
+    ensures no { result ≡ false →
+        HasNoGap widths.now.intervals.items (length widths.now.intervals.items) }
 {
     let count = known_ranks(widths);
     for rank in 0..count {
@@ -168,8 +171,10 @@ fn any_without_width(widths: &Widths) -> bool
 /// Whether no plan is in a case with these intervals: their least widths take more than all wires, or a rank has no width.
 pub(crate) fn is_empty(widths: &Widths) -> bool
     requires { IsRoomy widths.now }
-    ensures yes { result ≡ true → (c : Case) → c.intervals ≡ widths.now.intervals.items → IsEmpty widths.now.wires c }
-    ensures no { result ≡ false → (c : Case) → c.intervals ≡ widths.now.intervals.items → IsEmpty widths.now.wires c → ⊥ }
+    ensures yes { result ≡ true → (c : Case) → c.intervals ≡ widths.now.intervals.items →
+        IsEmpty widths.now.wires c }
+    ensures no { result ≡ false → (c : Case) → c.intervals ≡ widths.now.intervals.items →
+        IsEmpty widths.now.wires c → ⊥ }
 {
     let least = least_of(widths);
     let wires = widths.wires;
@@ -216,8 +221,9 @@ fn at_least(interval: Interval, width: u64) -> Interval
 pub(crate) fn tighten_ranks(widths: &mut Widths)
     requires roomy { IsRoomy widths.old }
     ensures roomy { IsRoomy widths.new }
-    ensures intervals { widths.new.intervals.items ≡
-        tightened_by (spare widths.old.wires widths.old.intervals.items) widths.old.intervals.items }
+    ensures intervals { widths.new.intervals.items
+        ≡ tightened_by (spare widths.old.wires widths.old.intervals.items)
+        widths.old.intervals.items }
     ensures later { IsLater widths.old widths.new }
 {
     let more = spare_wires(widths);
@@ -235,8 +241,9 @@ pub(crate) fn tighten_ranks(widths: &mut Widths)
 pub(crate) fn narrow_ranks(widths: &mut Widths, from: usize, width: u64)
     requires roomy { IsRoomy widths.old }
     ensures roomy { IsRoomy widths.new }
-    ensures intervals { widths.new.intervals.items ≡
-        take from widths.old.intervals.items ++ map (at_most width) (drop from widths.old.intervals.items) }
+    ensures intervals { widths.new.intervals.items
+        ≡ take from widths.old.intervals.items
+        ++ map (at_most width) (drop from widths.old.intervals.items) }
     ensures later { IsLater widths.old widths.new }
 {
     let count = known_ranks(widths);
@@ -253,8 +260,9 @@ pub(crate) fn widen_ranks(widths: &mut Widths, count: usize, width: u64)
     requires count { count ≤ length widths.old.intervals.items }
     requires width { width ≤ 256 }
     ensures roomy { IsRoomy widths.new }
-    ensures intervals { widths.new.intervals.items ≡
-        map (at_least width) (take count widths.old.intervals.items) ++ drop count widths.old.intervals.items }
+    ensures intervals { widths.new.intervals.items
+        ≡ map (at_least width) (take count widths.old.intervals.items)
+        ++ drop count widths.old.intervals.items }
     ensures later { IsLater widths.old widths.new }
 {
     for rank in 0..count {
@@ -269,7 +277,8 @@ pub(crate) fn add_rank(widths: &mut Widths)
     requires roomy { IsRoomy widths.old }
     requires room { length widths.old.intervals.items < widths.old.most }
     ensures roomy { IsRoomy widths.new }
-    ensures intervals { widths.new.intervals.items ≡ widths.old.intervals.items ++ interval 0 widths.old.wires ∷ [] }
+    ensures intervals { widths.new.intervals.items
+        ≡ widths.old.intervals.items ++ interval 0 widths.old.wires ∷ [] }
     ensures later { IsLater widths.old widths.new }
 {
     let any = Interval {

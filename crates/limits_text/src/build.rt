@@ -26,7 +26,8 @@ fn no_limits(alloc: Global, precedences: usize) -> Result<Limits, NoMemory>
 
 /// Changes the limits as an item says.
 fn apply_item(limits: &mut Limits, item: Item) -> Result<(), NoMemory>
-    ensures { OnOk result (limits_value limits.new ≡ says (item_of item) (limits_value limits.old)) }
+    ensures { OnOk result
+        (limits_value limits.new ≡ says (item_of item) (limits_value limits.old)) }
 {
     match item {
         Item::Number { amount, value } => match amount {
@@ -46,7 +47,8 @@ fn apply_item(limits: &mut Limits, item: Item) -> Result<(), NoMemory>
 
 /// The limits of all items, in the order of the text.
 pub fn limits_of(alloc: Global, list: Vec<Item>) -> Result<Limits, NoMemory>
-    ensures { IfOk result (λ limits. limits_value limits ≡ limits_said (reverse (map item_of list.items))) }
+    ensures { IfOk result
+        (λ limits. limits_value limits ≡ limits_said (reverse (map item_of list.items))) }
 {
     let mut limits = no_limits(alloc, list.len())?;
     for item in list {

@@ -50,7 +50,8 @@ fn release_test(
     requires within { test < length counts.old.items }
     requires held { 1 ≤ slice_index counts.old.items test }
     requires kept { IsKept counts.old.items (length counts.old.items) order.old.items }
-    ensures counts { OnOk result (counts.new.items ≡ slice_set counts.old.items test (slice_index counts.old.items test - 1)) }
+    ensures counts { OnOk result (counts.new.items
+        ≡ slice_set counts.old.items test (slice_index counts.old.items test - 1)) }
     ensures kept { OnOk result (IsKept counts.new.items (length counts.old.items) order.new.items) }
     ensures goes_on { OnOk result (GoesOn order.old.items order.new.items) }
 {
@@ -67,7 +68,8 @@ fn release_tests(
     tests: &[usize],
 ) -> Result<(), NoMemory>
     requires within { All (λ j. j < length counts.old.items) tests.now }
-    requires held { (j : ℕ) → j < length counts.old.items → copies tests.now j ≤ slice_index counts.old.items j }
+    requires held { (j : ℕ) → j < length counts.old.items →
+        copies tests.now j ≤ slice_index counts.old.items j }
     requires kept { IsKept counts.old.items (length counts.old.items) order.old.items }
     ensures long { OnOk result (length counts.new.items ≡ length counts.old.items) }
     ensures counts { OnOk result ((j : ℕ) → j < length counts.old.items →
@@ -142,10 +144,12 @@ fn least_before(
     pairs: &[(usize, usize)],
 ) -> Result<Vec<usize>, NoMemory>
     requires some { 1 ≤ length gone.now }
-    requires within { All (λ (e : ℕ × ℕ). (e.0 < length gone.now) × (e.1 < length gone.now)) pairs.now }
+    requires within { All (λ (e : ℕ × ℕ). (e.0 < length gone.now) × (e.1 < length gone.now))
+        pairs.now }
     ensures long { IfOk result (λ least. length least.items ≡ length gone.now) }
     ensures small { IfOk result (λ least. All (λ j. j < length gone.now) least.items) }
-    ensures least { IfOk result (λ least. Counts least.items (least_of gone.now (length gone.now - 1) pairs.now)) }
+    ensures least { IfOk result
+        (λ least. Counts least.items (least_of gone.now (length gone.now - 1) pairs.now)) }
 {
     let mut least = repeated(alloc, gone.len(), gone.len() - 1)?;
     for (first, second) in pairs {
@@ -208,7 +212,8 @@ pub fn first_loop(
     pairs: &[(usize, usize)],
 ) -> Result<Option<Vec<usize>>, NoMemory>
     requires { All (λ (e : ℕ × ℕ). (e.0 < count) × (e.1 < count)) pairs.now }
-    ensures { IfOk result (λ found. MatchOption found (HasRank pairs.now) (λ circle. IsFirstLoop pairs.now count circle.items)) }
+    ensures { IfOk result (λ found. MatchOption found (HasRank pairs.now)
+        (λ circle. IsFirstLoop pairs.now count circle.items)) }
 {
     let order = taking(alloc, count, pairs)?;
     let gone = marks(alloc, count, order.as_slice())?;

@@ -33,10 +33,11 @@ pub fn loop_of(
     tests: &LiveTests,
     pairs: &[(usize, usize)],
 ) -> Result<Option<Vec<TestId>>, NoMemory>
-    requires { (soc : SocValue) × (limits : LimitsValue) × (tests.now ≡ live_ids soc) × (pairs.now ≡ precedences_of soc limits) }
-    ensures { (soc : SocValue) (limits : LimitsValue) → tests.now ≡ live_ids soc → pairs.now ≡ precedences_of soc limits →
-        IfOk result (λ found. MatchOption found
-        (IsAcyclic soc limits)
+    requires { (soc : SocValue) × (limits : LimitsValue) × (tests.now ≡ live_ids soc)
+        × (pairs.now ≡ precedences_of soc limits) }
+    ensures { (soc : SocValue) (limits : LimitsValue) → tests.now ≡ live_ids soc →
+        pairs.now ≡ precedences_of soc limits →
+        IfOk result (λ found. MatchOption found (IsAcyclic soc limits)
         (λ circle. IsLoopOf soc limits circle.items)) }
 {
     // most limits have no precedence, and then no test is taken away

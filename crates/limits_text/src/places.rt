@@ -132,7 +132,8 @@ fn note_precedence(
     first: TestId,
     second: TestId,
 ) -> Result<(), LimFault>
-    ensures { Notes tests.now (before_item line first second) pairs.old.items pairs.new.items result }
+    ensures { Notes tests.now (before_item line first second) pairs.old.items pairs.new.items
+        result }
 {
     let Some(earlier) = tests.place(first) else {
         return Err(LimFault::UnknownTest { line });

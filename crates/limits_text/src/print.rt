@@ -74,7 +74,8 @@ fn push_steps(to: &mut Vec<u8>, steps: &[(u64, u64)]) -> Result<(), NoMemory>
 }
 
 fn push_profile(to: &mut Vec<u8>, profile: &Profile) -> Result<(), NoMemory>
-    ensures { OnOk result (to.new.items ≡ to.old.items ++ profile_line (profile_value profile.now)) }
+    ensures { OnOk result
+        (to.new.items ≡ to.old.items ++ profile_line (profile_value profile.now)) }
 {
     extend(to, b"Profile")?;
     push_test(to, profile.test)?;
@@ -84,7 +85,8 @@ fn push_profile(to: &mut Vec<u8>, profile: &Profile) -> Result<(), NoMemory>
 }
 
 fn push_profiles(to: &mut Vec<u8>, profiles: &[Profile]) -> Result<(), NoMemory>
-    ensures { OnOk result (to.new.items ≡ to.old.items ++ flat_map profile_line (map profile_value profiles.now)) }
+    ensures { OnOk result
+        (to.new.items ≡ to.old.items ++ flat_map profile_line (map profile_value profiles.now)) }
 {
     for profile in profiles {
         push_profile(to, profile)?;
@@ -119,7 +121,8 @@ fn text_of(alloc: Global, limits: &Limits) -> Result<Vec<u8>, NoMemory>
 /// The text of limits, one item a line. Where the limits are sound for a sound chip, it is read for it as these limits.
 pub fn print_limits(alloc: Global, limits: &Limits) -> Result<Vec<u8>, NoMemory>
     ensures text { IfOk result (λ text. text.items ≡ limits_text (limits_value limits.now)) }
-    ensures read { IfOk result (λ text. (soc : SocValue) → IsSoundChip soc → IsSoundLimits soc (limits_value limits.now) →
+    ensures read { IfOk result
+        (λ text. (soc : SocValue) → IsSoundChip soc → IsSoundLimits soc (limits_value limits.now) →
         AreReadLimits text.items soc (limits_value limits.now)) }
 {
     let text = text_of(alloc, limits)?;

@@ -47,7 +47,8 @@ fn within_power(
     named: NamedTests,
 ) -> Result<Bounds, LimFault>
     requires tests { named.tests ≡ live_ids (soc_value soc.now) }
-    requires precedences { named.precedences.items ≡ precedences_of (soc_value soc.now) (limits_value limits) }
+    requires precedences { named.precedences.items
+        ≡ precedences_of (soc_value soc.now) (limits_value limits) }
     requires acyclic { IsAcyclic (soc_value soc.now) (limits_value limits) }
     ensures { AnswersLimits (soc_value soc.now) (limits_value limits) result }
 {
@@ -68,8 +69,10 @@ fn bounds_of(
     named: NamedTests,
 ) -> Result<Bounds, LimFault>
     requires tests { named.tests ≡ live_ids (soc_value soc.now) }
-    requires precedences { named.precedences.items ≡ flat_map (pair_of (soc_value soc.now)) (map item_of list.items) }
-    ensures { AnswersLimits (soc_value soc.now) (limits_said (reverse (map item_of list.items))) result }
+    requires precedences { named.precedences.items
+        ≡ flat_map (pair_of (soc_value soc.now)) (map item_of list.items) }
+    ensures { AnswersLimits (soc_value soc.now) (limits_said (reverse (map item_of list.items)))
+        result }
 {
     let circle = loop_of(alloc, &named.tests, &named.precedences)?;
     let limits = limits_of(alloc, list)?;
@@ -81,9 +84,11 @@ fn bounds_of(
 
 /// The limits that a text says for a chip, as [`read_limits`] answers them, resolved with the chip.
 pub fn read_bounds(alloc: Global, bytes: &[u8], soc: &Soc) -> Result<Bounds, LimFault>
-    ensures read { IfOk result (λ bounds. LimitsRead bytes.now (soc_value soc.now) (Ok bounds.limits)) }
+    ensures read { IfOk result
+        (λ bounds. LimitsRead bytes.now (soc_value soc.now) (Ok bounds.limits)) }
     ensures refused { IfErr result (λ fault. LimitsRead bytes.now (soc_value soc.now) (Err fault)) }
-    ensures resolved { IfOk result (λ bounds. IsResolved (soc_value soc.now) bounds.limits bounds.resolved) }
+    ensures resolved { IfOk result
+        (λ bounds. IsResolved (soc_value soc.now) bounds.limits bounds.resolved) }
 {
     let items = read_items(alloc, bytes)?;
     let list = list_of(items);

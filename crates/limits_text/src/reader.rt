@@ -16,7 +16,8 @@ use std::mem::replace;
 
 fn pushed(items: &mut Items, part: &mut Part, item: Item) -> Result<(), Stop>
     requires { InStep items.old }
-    ensures { Steps (at items.old.second (item_of item ∷ done_of items.old) between) result part.new items.new }
+    ensures { Steps (at items.old.second (item_of item ∷ done_of items.old) between) result part.new
+        items.new }
 {
     add_item(items, item)?;
     *part = Part::Between;
@@ -26,7 +27,9 @@ fn pushed(items: &mut Items, part: &mut Part, item: Item) -> Result<(), Stop>
 /// The first word of an item.
 fn begin_item(items: &Items, part: &mut Part, word: Word<'_>) -> Result<(), Stop>
     requires { InStep items.now }
-    ensures { Steps (begins items.now.second (done_of items.now) (word.entry.bytes.now, word.entry.line)) result part.new items.now }
+    ensures { Steps
+        (begins items.now.second (done_of items.now) (word.entry.bytes.now, word.entry.line)) result
+        part.new items.now }
 {
     let line = word.line;
     *part = match key_of(word.bytes) {
@@ -51,7 +54,8 @@ fn begin_item(items: &Items, part: &mut Part, word: Word<'_>) -> Result<(), Stop
 /// The word `Limits`.
 fn step_title(items: &Items, part: &mut Part, word: &[u8]) -> Result<(), Stop>
     requires { InStep items.now }
-    ensures { Steps (goes_after_title items.now.second (done_of items.now) (says_title word.now)) result part.new items.now }
+    ensures { Steps (goes_after_title items.now.second (done_of items.now) (says_title word.now))
+        result part.new items.now }
 {
     if !is_title(word) {
         return Err(Stop::Refused);
@@ -63,7 +67,8 @@ fn step_title(items: &Items, part: &mut Part, word: &[u8]) -> Result<(), Stop>
 /// The number of the form.
 fn step_version(items: &mut Items, part: &mut Part, word: &[u8]) -> Result<(), Stop>
     requires { InStep items.old }
-    ensures { Steps (goes_after_version (done_of items.old) (number_in word.now)) result part.new items.new }
+    ensures { Steps (goes_after_version (done_of items.old) (number_in word.now)) result part.new
+        items.new }
 {
     match number_of(word) {
         Some(form) if 1 <= form && form <= 2 => {
@@ -78,7 +83,9 @@ fn step_version(items: &mut Items, part: &mut Part, word: &[u8]) -> Result<(), S
 /// The number of an amount.
 fn step_amount(items: &mut Items, part: &mut Part, amount: Amount, word: &[u8]) -> Result<(), Stop>
     requires { InStep items.old }
-    ensures { Steps (goes_after_amount items.old.second (done_of items.old) amount (number_in word.now)) result part.new items.new }
+    ensures { Steps
+        (goes_after_amount items.old.second (done_of items.old) amount (number_in word.now)) result
+        part.new items.new }
 {
     let Some(value) = number_of(word) else {
         return Err(Stop::Refused);
@@ -98,7 +105,8 @@ fn name_test(
     test: TestId,
 ) -> Result<(), Stop>
     requires { InStep items.old }
-    ensures { Steps (goes_after_name items.old.second (done_of items.old) naming test) result part.new items.new }
+    ensures { Steps (goes_after_name items.old.second (done_of items.old) naming test) result
+        part.new items.new }
 {
     match naming {
         Naming::First { line } => {
@@ -131,7 +139,9 @@ fn name_test(
 /// The module of a test.
 fn step_module(items: &Items, part: &mut Part, naming: Naming, word: &[u8]) -> Result<(), Stop>
     requires { InStep items.now }
-    ensures { Steps (goes_after_module items.now.second (done_of items.now) naming (number_in word.now)) result part.new items.now }
+    ensures { Steps
+        (goes_after_module items.now.second (done_of items.now) naming (number_in word.now)) result
+        part.new items.now }
 {
     let Some(number) = number_of(word) else {
         return Err(Stop::Refused);
@@ -150,7 +160,9 @@ fn step_test(
     word: &[u8],
 ) -> Result<(), Stop>
     requires { InStep items.old }
-    ensures { Steps (goes_after_test items.old.second (done_of items.old) naming «module» (number_in word.now)) result part.new items.new }
+    ensures { Steps
+        (goes_after_test items.old.second (done_of items.old) naming «module» (number_in word.now))
+        result part.new items.new }
 {
     match number_of(word) {
         Some(test) => name_test(alloc, items, part, naming, TestId { module, test }),
@@ -178,8 +190,9 @@ fn end_profile(
     word: Word<'_>,
 ) -> Result<(), Stop>
     requires { InStep items.old }
-    ensures { Steps (goes_on items.old.second (done_of items.old) line test steps.items (word.entry.bytes.now, word.entry.line)) result
-        part.new items.new }
+    ensures { Steps
+        (goes_on items.old.second (done_of items.old) line test steps.items
+        (word.entry.bytes.now, word.entry.line)) result part.new items.new }
 {
     if steps.is_empty() {
         return Err(Stop::Refused);
@@ -198,8 +211,10 @@ fn step_steps(
     word: Word<'_>,
 ) -> Result<(), Stop>
     requires { InStep items.old }
-    ensures { Steps (goes_after_step items.old.second (done_of items.old) line test steps.items (word.entry.bytes.now, word.entry.line)
-        (number_in word.entry.bytes.now)) result part.new items.new }
+    ensures { Steps
+        (goes_after_step items.old.second (done_of items.old) line test steps.items
+        (word.entry.bytes.now, word.entry.line) (number_in word.entry.bytes.now)) result
+        part.new items.new }
 {
     let Some(from) = number_of(word.bytes) else {
         return end_profile(items, part, line, test, steps, word);
@@ -227,8 +242,9 @@ fn step_power(
     word: &[u8],
 ) -> Result<(), Stop>
     requires { InStep items.now }
-    ensures { Steps (goes_after_power items.now.second (done_of items.now) line test steps.items from (number_in word.now)) result
-        part.new items.now }
+    ensures { Steps
+        (goes_after_power items.now.second (done_of items.now) line test steps.items from
+        (number_in word.now)) result part.new items.now }
 {
     let Some(power) = number_of(word) else {
         return Err(Stop::Refused);
@@ -249,8 +265,9 @@ pub fn step_word(
     word: Word<'_>,
 ) -> Result<(), Stop>
     requires { InStep items.old }
-    ensures { Steps (step_at items.old.second (done_of items.old) (part_of part.old) (word.entry.bytes.now, word.entry.line)) result
-        part.new items.new }
+    ensures { Steps
+        (step_at items.old.second (done_of items.old) (part_of part.old)
+        (word.entry.bytes.now, word.entry.line)) result part.new items.new }
 {
     match part {
         Part::Title => step_title(items, part, word.bytes),

@@ -56,7 +56,10 @@ fn passing_test(
     test: &Test,
 ) -> Option<(TestId, u64)>
     requires { AreProfilePlaces places.now profiles.now }
-    ensures { (place : ℕ) → result ≡ passing (map profile_value profiles.now) most (live_at place (module_value «module».now) test.now) }
+    ensures { (place : ℕ) →
+        result
+        ≡ passing (map profile_value profiles.now) most
+        (live_at place (module_value «module».now) test.now) }
 {
     let id = TestId {
         module: module.number,
@@ -74,7 +77,10 @@ fn passing_in(
     module: &Module,
 ) -> Option<(TestId, u64)>
     requires { AreProfilePlaces places.now profiles.now }
-    ensures { (place : ℕ) → result ≡ first_passing (map profile_value profiles.now) most (live_of place (module_value «module».now)) }
+    ensures { (place : ℕ) →
+        result
+        ≡ first_passing (map profile_value profiles.now) most
+        (live_of place (module_value «module».now)) }
 {
     for test in &module.tests {
         if !live(test) {
@@ -95,7 +101,8 @@ fn first_test(
     soc: &Soc,
 ) -> Option<(TestId, u64)>
     requires { AreProfilePlaces places.now profiles.now }
-    ensures { result ≡ first_passing (map profile_value profiles.now) most (live_tests (soc_value soc.now)) }
+    ensures { result
+        ≡ first_passing (map profile_value profiles.now) most (live_tests (soc_value soc.now)) }
 {
     for module in soc.modules.values() {
         if let Some(found) = passing_in(profiles, places, most, module) {

@@ -34,7 +34,8 @@ impl<'a> Model for PlanIndex<'a> {
 
     ghost view = { λ t. plan_value t.plan.now };
 
-    ghost invariant = { λ t. IsIndex (plan_value t.plan.now) t.buses.entries t.wrappers.entries t.starts.entries };
+    ghost invariant = { λ t. IsIndex (plan_value t.plan.now) t.buses.entries t.wrappers.entries
+        t.starts.entries };
 }
 
 impl<'a> PlanIndex<'a> {
@@ -55,7 +56,9 @@ impl<'a> PlanIndex<'a> {
         starts: IndexMap<TestId, u64>,
     ) -> Result<PlanIndex<'a>, NoMemory>
         requires buses { AreBusPlaces buses.entries (plan_value plan.now).buses }
-        requires starts { (id : TestId) → lookup (same_test id) starts.entries ≡ lookup (same_test id) (plan_value plan.now).starts }
+        requires starts { (id : TestId) →
+            lookup (same_test id) starts.entries
+            ≡ lookup (same_test id) (plan_value plan.now).starts }
         ensures { IfOk result (λ index. index ≡ plan_value plan.now) }
     {
         let wrappers = wrappers_by_mode(alloc, &plan.wrappers)?;
@@ -90,7 +93,8 @@ impl<'a> PlanIndex<'a> {
 
     /// The cycle of the first start of a test, 0 where it has none.
     pub fn start(&self, id: TestId) -> u64
-        ensures { result ≡ of_first (λ (s : TestId × ℕ). same_test s.0 id) (λ s. s.1) 0 self.now.starts }
+        ensures { result
+            ≡ of_first (λ (s : TestId × ℕ). same_test s.0 id) (λ s. s.1) 0 self.now.starts }
     {
         self.starts.get(&id).copied().unwrap_or(0)
     }
@@ -102,8 +106,10 @@ fn note_modules(
     modules: &[u64],
     bus: usize,
 ) -> Result<(), NoMemory>
-    ensures { OnOk result ((m : ℕ) → lookup (nat_eq m) buses.new.entries
-        ≡ (if list_any (nat_eq m) modules.now then Some bus else lookup (nat_eq m) buses.old.entries)) }
+    ensures { OnOk result ((m : ℕ) →
+        lookup (nat_eq m) buses.new.entries
+        ≡ (if list_any (nat_eq m) modules.now then Some bus else lookup (nat_eq m)
+        buses.old.entries)) }
 {
     for module in modules {
         buses.insert(*module, bus)?;
@@ -140,7 +146,8 @@ pub fn wrappers_by_mode(
     wrappers: &[Wrapper],
 ) -> Result<IndexMap<(u64, bool), usize>, NoMemory>
     ensures { IfOk result (λ named. (m : ℕ) (scan : Bool) →
-        lookup (is_pair m scan) named.entries ≡ position (wraps m scan) (map wrapper_value wrappers.now)) }
+        lookup (is_pair m scan) named.entries
+        ≡ position (wraps m scan) (map wrapper_value wrappers.now)) }
 {
     let mut named = IndexMap::with_capacity(alloc, wrappers.len())?;
     for place in (0..wrappers.len()).rev() {
@@ -155,7 +162,8 @@ fn starts_by_name(
     alloc: Global,
     starts: &[(TestId, u64)],
 ) -> Result<IndexMap<TestId, u64>, NoMemory>
-    ensures { IfOk result (λ named. (id : TestId) → lookup (same_test id) named.entries ≡ lookup (same_test id) starts.now) }
+    ensures { IfOk result (λ named. (id : TestId) →
+        lookup (same_test id) named.entries ≡ lookup (same_test id) starts.now) }
 {
     let mut named = IndexMap::with_capacity(alloc, starts.len())?;
     for place in (0..starts.len()).rev() {

@@ -56,7 +56,8 @@ impl Model for LiveTests {
 
     ghost view = { λ t. t.names.items };
 
-    ghost invariant = { λ t. (id : TestId) → lookup (same_test id) t.places.entries ≡ position (same_test id) t.names.items };
+    ghost invariant = { λ t. (id : TestId) →
+        lookup (same_test id) t.places.entries ≡ position (same_test id) t.names.items };
 }
 
 impl LiveTests {
@@ -98,7 +99,8 @@ impl LiveTests {
 
 /// Adds the names of the live tests of a module.
 fn push_names(names: &mut Vec<TestId>, module: &Module) -> Result<(), NoMemory>
-    ensures { OnOk result (names.new.items ≡ names.old.items ++ names_in (module_value «module».now)) }
+    ensures { OnOk result
+        (names.new.items ≡ names.old.items ++ names_in (module_value «module».now)) }
 {
     for test in &module.tests {
         if live(test) {
@@ -125,7 +127,8 @@ fn live_names(alloc: Global, soc: &Soc) -> Result<Vec<TestId>, NoMemory>
 
 /// The place of each name; of more than one the first.
 fn places_by_name(alloc: Global, names: &[TestId]) -> Result<IndexMap<TestId, usize>, NoMemory>
-    ensures { IfOk result (λ places. (id : TestId) → lookup (same_test id) places.entries ≡ position (same_test id) names.now) }
+    ensures { IfOk result (λ places. (id : TestId) →
+        lookup (same_test id) places.entries ≡ position (same_test id) names.now) }
 {
     let mut places = IndexMap::with_capacity(alloc, names.len())?;
     for place in (0..names.len()).rev() {

@@ -37,7 +37,8 @@ pub fn count_before(
 ) -> Result<Vec<usize>, NoMemory>
     requires { All (λ (e : ℕ × ℕ). (e.0 < count) × (e.1 < count)) pairs.now }
     ensures long { IfOk result (λ counts. length counts.items ≡ count) }
-    ensures counts { IfOk result (λ counts. (i : ℕ) → i < count → slice_index_or counts.items i 0 ≡ length (before i pairs.now)) }
+    ensures counts { IfOk result (λ counts. (i : ℕ) → i < count →
+        slice_index_or counts.items i 0 ≡ length (before i pairs.now)) }
 {
     let mut counts: Vec<usize> = vec![in alloc; 0; count]?;
     for (_, second) in pairs {
@@ -49,7 +50,8 @@ pub fn count_before(
 /// No neighbours for any test, with room for as many of each as `rooms` says.
 fn no_neighbours(alloc: Global, rooms: &[usize]) -> Result<Vec<Neighbours>, NoMemory>
     ensures long { IfOk result (λ lists. length lists.items ≡ length rooms.now) }
-    ensures none { IfOk result (λ lists. (i : ℕ) → i < length rooms.now → slice_index_or (map tests_of lists.items) i [] ≡ []) }
+    ensures none { IfOk result (λ lists. (i : ℕ) → i < length rooms.now →
+        slice_index_or (map tests_of lists.items) i [] ≡ []) }
 {
     let mut lists = Vec::with_capacity(alloc, rooms.len())?;
     for room in rooms {
@@ -68,7 +70,8 @@ pub fn all_after(
 ) -> Result<Vec<Neighbours>, NoMemory>
     requires { All (λ (e : ℕ × ℕ). (e.0 < count) × (e.1 < count)) pairs.now }
     ensures long { IfOk result (λ lists. length lists.items ≡ count) }
-    ensures lists { IfOk result (λ lists. (i : ℕ) → i < count → slice_index_or (map tests_of lists.items) i [] ≡ after i pairs.now) }
+    ensures lists { IfOk result (λ lists. (i : ℕ) → i < count →
+        slice_index_or (map tests_of lists.items) i [] ≡ after i pairs.now) }
 {
     let rooms = count_after(alloc, count, pairs)?;
     let mut lists = no_neighbours(alloc, &rooms)?;
@@ -87,7 +90,8 @@ pub fn all_before(
 ) -> Result<Vec<Neighbours>, NoMemory>
     requires { All (λ (e : ℕ × ℕ). (e.0 < count) × (e.1 < count)) pairs.now }
     ensures long { IfOk result (λ lists. length lists.items ≡ count) }
-    ensures lists { IfOk result (λ lists. (i : ℕ) → i < count → slice_index_or (map tests_of lists.items) i [] ≡ before i pairs.now) }
+    ensures lists { IfOk result (λ lists. (i : ℕ) → i < count →
+        slice_index_or (map tests_of lists.items) i [] ≡ before i pairs.now) }
 {
     let rooms = count_before(alloc, count, pairs)?;
     let mut lists = no_neighbours(alloc, &rooms)?;

@@ -34,7 +34,8 @@ fn parent_of(soc: &Soc, parents: &[usize], place: usize) -> usize
     requires there { place < length (soc_value soc.now).modules }
     requires long { length parents.now ≡ length (soc_value soc.now).modules }
     requires earlier { (p : ℕ) → p < place → HasParentAt (soc_value soc.now) parents.now p }
-    ensures is { result < length (soc_value soc.now).modules → IsParent (soc_value soc.now).modules result place }
+    ensures is { result < length (soc_value soc.now).modules →
+        IsParent (soc_value soc.now).modules result place }
     ensures only { (r : ℕ) → IsParent (soc_value soc.now).modules r place → r ≡ result }
     ensures within { result ≤ length (soc_value soc.now).modules }
 {

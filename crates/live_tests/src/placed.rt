@@ -46,7 +46,8 @@ impl Placed {
     pub fn new(alloc: Global, soc: &Soc, plan: &Plan) -> Result<Placed, NoMemory>
         requires sound { IsSoundChip (soc_value soc.now) }
         requires good { IsGoodAlone (soc_value soc.now) (plan_value plan.now) }
-        ensures { IfOk result (λ placed. IsPlaced (soc_value soc.now) (plan_value plan.now) placed) }
+        ensures { IfOk result
+            (λ placed. IsPlaced (soc_value soc.now) (plan_value plan.now) placed) }
     {
         let index = PlanIndex::new(alloc, plan)?;
         let placed = placed_by(alloc, soc, &index);
@@ -110,11 +111,15 @@ impl<'a> PlannedChip<'a> {
     ) -> PlacedTest
         requires sound { IsSoundChip (soc_value self.now.soc.now) }
         requires good { IsGoodAlone (soc_value self.now.soc.now) self.now.index.now }
-        requires module_there { slice_get (soc_value self.now.soc.now).modules place ≡ Some (module_value «module».now) }
+        requires module_there { slice_get (soc_value self.now.soc.now).modules place
+            ≡ Some (module_value «module».now) }
         requires test_there { (k : ℕ) × (slice_get «module».now.tests.items k ≡ Some test.now) }
         requires live { IsTrue (is_live test.now) }
-        requires wrappers { AreModeWrappers self.now.index.now (module_value «module».now) wrappers.now }
-        ensures { result ≡ placed_of (planned_test self.now.index.now place (module_value «module».now) test.now) }
+        requires wrappers { AreModeWrappers self.now.index.now (module_value «module».now)
+            wrappers.now }
+        ensures { result
+            ≡ placed_of
+            (planned_test self.now.index.now place (module_value «module».now) test.now) }
     {
         let id = TestId {
             module: module.number,
@@ -138,10 +143,14 @@ impl<'a> PlannedChip<'a> {
     ) -> Result<(), NoMemory>
         requires sound { IsSoundChip (soc_value self.now.soc.now) }
         requires good { IsGoodAlone (soc_value self.now.soc.now) self.now.index.now }
-        requires module_there { slice_get (soc_value self.now.soc.now).modules place ≡ Some (module_value «module».now) }
-        requires wrappers { AreModeWrappers self.now.index.now (module_value «module».now) wrappers.now }
-        ensures { OnOk result (tests.new.items ≡ tests.old.items
-            ++ placed_in self.now.index.now place (module_value «module».now) «module».now.tests.items) }
+        requires module_there { slice_get (soc_value self.now.soc.now).modules place
+            ≡ Some (module_value «module».now) }
+        requires wrappers { AreModeWrappers self.now.index.now (module_value «module».now)
+            wrappers.now }
+        ensures { OnOk result (tests.new.items
+            ≡ tests.old.items
+            ++ placed_in self.now.index.now place (module_value «module».now)
+            «module».now.tests.items) }
     {
         for test in &module.tests {
             if live(test) {
@@ -155,7 +164,8 @@ impl<'a> PlannedChip<'a> {
     fn wrappers(&self, alloc: Global) -> Result<Vec<ModeWrappers>, NoMemory>
         requires sound { IsSoundChip (soc_value self.now.soc.now) }
         requires good { IsGoodAlone (soc_value self.now.soc.now) self.now.index.now }
-        ensures { IfOk result (λ wrappers. AreWalked (soc_value self.now.soc.now) self.now.index.now wrappers.items) }
+        ensures { IfOk result
+            (λ wrappers. AreWalked (soc_value self.now.soc.now) self.now.index.now wrappers.items) }
     {
         let count = module_count(self.soc);
         let mut wrappers = Vec::with_capacity(alloc, count)?;
@@ -174,7 +184,8 @@ impl<'a> PlannedChip<'a> {
         requires sound { IsSoundChip (soc_value self.now.soc.now) }
         requires good { IsGoodAlone (soc_value self.now.soc.now) self.now.index.now }
         requires walked { AreWalked (soc_value self.now.soc.now) self.now.index.now wrappers.now }
-        ensures { IfOk result (λ tests. tests.items ≡ placed_tests (soc_value self.now.soc.now) self.now.index.now) }
+        ensures { IfOk result
+            (λ tests. tests.items ≡ placed_tests (soc_value self.now.soc.now) self.now.index.now) }
     {
         let mut tests = Vec::new(alloc);
         for place in 0..module_count(self.soc) {

@@ -32,7 +32,8 @@ impl<'a> Model for PlacedPlan<'a> {
 
     ghost view = { λ p. record { soc = soc_value p.soc.now; plan = plan_value p.plan.now } };
 
-    ghost invariant = { λ p. IsPlacedPlan (soc_value p.soc.now) (plan_value p.plan.now) p.names.now p.placed.now };
+    ghost invariant = { λ p. IsPlacedPlan (soc_value p.soc.now) (plan_value p.plan.now) p.names.now
+        p.placed.now };
 }
 
 /// The placed test of a name, where these are the names of all.
@@ -83,10 +84,12 @@ impl<'a> PlacedPlan<'a> {
 
     /// A live test of the module at a place.
     pub fn test(&self, place: usize, module: &Module, test: &Test) -> PlacedTest
-        requires module_there { slice_get self.now.soc.modules place ≡ Some (module_value «module».now) }
+        requires module_there { slice_get self.now.soc.modules place
+            ≡ Some (module_value «module».now) }
         requires test_there { (k : ℕ) × (slice_get «module».now.tests.items k ≡ Some test.now) }
         requires live { IsTrue (is_live test.now) }
-        ensures { result ≡ placed_of (planned_test self.now.plan place (module_value «module».now) test.now) }
+        ensures { result
+            ≡ placed_of (planned_test self.now.plan place (module_value «module».now) test.now) }
     {
         let id = TestId {
             module: module.number,
@@ -101,7 +104,8 @@ impl<'a> PlacedPlan<'a> {
     /// The wrappers of the module at a place.
     pub fn wrappers(&self, place: usize) -> ModeWrappers
         requires { place < length self.now.soc.modules }
-        ensures { (m : ModuleValue) → slice_get self.now.soc.modules place ≡ Some m → AreModeWrappers self.now.plan m result }
+        ensures { (m : ModuleValue) → slice_get self.now.soc.modules place ≡ Some m →
+            AreModeWrappers self.now.plan m result }
     {
         self.placed.wrappers[place]
     }

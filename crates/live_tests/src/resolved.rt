@@ -48,7 +48,8 @@ impl Resolved {
         profiles: IndexMap<TestId, usize>,
     ) -> Result<Resolved, NoMemory>
         requires tests { tests ≡ live_ids (soc_value soc.now) }
-        requires precedences { precedences.items ≡ precedences_of (soc_value soc.now) (limits_value limits.now) }
+        requires precedences { precedences.items
+            ≡ precedences_of (soc_value soc.now) (limits_value limits.now) }
         requires profiles { AreProfilePlaces profiles limits.now.profiles.items }
         ensures { IfOk result (λ resolved. IsResolved (soc_value soc.now) limits.now resolved) }
     {

@@ -35,11 +35,16 @@ pub struct ModeWrappers {
 
 /// The wrapper at a place, walked once.
 pub fn walked(module: &Module, wrapper: &Wrapper, place: usize) -> ModeWrapper
-    requires proper { IsProper (module_value «module».now) wrapper.now.scan (map chain_value wrapper.now.chains.items) }
+    requires proper { IsProper (module_value «module».now) wrapper.now.scan
+        (map chain_value wrapper.now.chains.items) }
     requires small { module_size (module_value «module».now) ≤ 10 ^ 18 }
     ensures place { result.place ≡ place }
-    ensures si { result.si ≡ si_of (chain_cells (module_value «module».now) wrapper.now.scan (map chain_value wrapper.now.chains.items)) }
-    ensures so { result.so ≡ so_of (chain_cells (module_value «module».now) wrapper.now.scan (map chain_value wrapper.now.chains.items)) }
+    ensures si { result.si
+        ≡ si_of (chain_cells (module_value «module».now) wrapper.now.scan
+        (map chain_value wrapper.now.chains.items)) }
+    ensures so { result.so
+        ≡ so_of (chain_cells (module_value «module».now) wrapper.now.scan
+        (map chain_value wrapper.now.chains.items)) }
     ensures short { 1 + result.si + result.so ≤ module_size (module_value «module».now) }
 {
     let (si, so) = lengths(module, wrapper);
@@ -57,8 +62,10 @@ fn wrapper_at(
 ) -> Option<ModeWrapper>
     requires sound { IsSoundChip (soc_value soc.now) }
     requires proper { Each (HasProperCells (soc_value soc.now)) (map wrapper_value wrappers.now) }
-    requires there { slice_get (soc_value soc.now).modules place ≡ Some (module_value «module».now) }
-    requires found { found ≡ position (wraps «module».now.number scan) (map wrapper_value wrappers.now) }
+    requires there { slice_get (soc_value soc.now).modules place
+        ≡ Some (module_value «module».now) }
+    requires found { found
+        ≡ position (wraps «module».now.number scan) (map wrapper_value wrappers.now) }
     ensures { (plan : PlanValue) → plan.wrappers ≡ map wrapper_value wrappers.now →
         MayBeWrapper plan (module_value «module».now) scan result }
 {
@@ -80,10 +87,14 @@ impl ModeWrappers {
         terminals: Option<usize>,
     ) -> ModeWrappers
         requires sound { IsSoundChip (soc_value soc.now) }
-        requires proper { Each (HasProperCells (soc_value soc.now)) (map wrapper_value wrappers.now) }
-        requires there { slice_get (soc_value soc.now).modules place ≡ Some (module_value «module».now) }
-        requires scan { scan ≡ position (wraps «module».now.number true) (map wrapper_value wrappers.now) }
-        requires terminals { terminals ≡ position (wraps «module».now.number false) (map wrapper_value wrappers.now) }
+        requires proper { Each (HasProperCells (soc_value soc.now))
+            (map wrapper_value wrappers.now) }
+        requires there { slice_get (soc_value soc.now).modules place
+            ≡ Some (module_value «module».now) }
+        requires scan { scan
+            ≡ position (wraps «module».now.number true) (map wrapper_value wrappers.now) }
+        requires terminals { terminals
+            ≡ position (wraps «module».now.number false) (map wrapper_value wrappers.now) }
         ensures { (plan : PlanValue) → plan.wrappers ≡ map wrapper_value wrappers.now →
             AreModeWrappers plan (module_value «module».now) result }
     {
@@ -102,7 +113,8 @@ impl ModeWrappers {
     ) -> ModeWrappers
         requires sound { IsSoundChip (soc_value soc.now) }
         requires good { IsGoodAlone (soc_value soc.now) index.now }
-        requires there { slice_get (soc_value soc.now).modules place ≡ Some (module_value «module».now) }
+        requires there { slice_get (soc_value soc.now).modules place
+            ≡ Some (module_value «module».now) }
         ensures { AreModeWrappers index.now (module_value «module».now) result }
     {
         let scan = index.wrapper(module.number, true);
@@ -113,9 +125,13 @@ impl ModeWrappers {
 
     /// The cycles of a live test of the module that has these wrappers.
     pub fn cycles(&self, module: &Module, test: &Test) -> u64
-        requires { (plan : PlanValue) × IsWrappedTest plan (module_value «module».now) test.now self.now }
-        ensures cycles { (plan : PlanValue) → AreModeWrappers plan (module_value «module».now) self.now →
-            result ≡ length (operations_of (module_value «module».now) test.now (chains_of plan (module_value «module».now) test.now)) }
+        requires { (plan : PlanValue)
+            × IsWrappedTest plan (module_value «module».now) test.now self.now }
+        ensures cycles { (plan : PlanValue) →
+            AreModeWrappers plan (module_value «module».now) self.now →
+            result
+            ≡ length (operations_of (module_value «module».now) test.now
+            (chains_of plan (module_value «module».now) test.now)) }
         ensures small { result ≤ 10 ^ 18 }
     {
         if !test.tam {
@@ -129,7 +145,8 @@ impl ModeWrappers {
 
     /// The wrapper in a mode. None comes exactly where the plan has none.
     pub fn in_mode(&self, scan: bool) -> Option<ModeWrapper>
-        ensures { (plan : PlanValue) (m : ModuleValue) → AreModeWrappers plan m self.now → MayBeWrapper plan m scan result }
+        ensures { (plan : PlanValue) (m : ModuleValue) → AreModeWrappers plan m self.now →
+            MayBeWrapper plan m scan result }
     {
         if scan { self.scan } else { self.terminals }
     }

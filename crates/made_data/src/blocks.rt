@@ -41,8 +41,10 @@ impl Block {
         ensures faults { K.faults out.old ≤ K.faults out.new }
         ensures room { OnOk result (HasRoom self.new) }
         ensures empty { OnOk result (waiting self.new ≡ []) }
-        ensures sent { OnOk result (HasSent K.is_put K.written out.old out.new (waiting self.old) [] (waiting self.new)) }
-        ensures failed { OnErr result (HasFailed K.is_put K.written K.faults out.old out.new (waiting self.old)) }
+        ensures sent { OnOk result
+            (HasSent K.is_put K.written out.old out.new (waiting self.old) [] (waiting self.new)) }
+        ensures failed { OnErr result
+            (HasFailed K.is_put K.written K.faults out.old out.new (waiting self.old)) }
     {
         match put_all(out, &self.bytes[..self.used]) {
             Ok(()) => {
@@ -58,8 +60,10 @@ impl Block {
         requires { IsBlock self.old }
         ensures faults { K.faults out.old ≤ K.faults out.new }
         ensures room { OnOk result (HasRoom self.new) }
-        ensures sent { OnOk result (HasSent K.is_put K.written out.old out.new (waiting self.old) [] (waiting self.new)) }
-        ensures failed { OnErr result (HasFailed K.is_put K.written K.faults out.old out.new (waiting self.old)) }
+        ensures sent { OnOk result
+            (HasSent K.is_put K.written out.old out.new (waiting self.old) [] (waiting self.new)) }
+        ensures failed { OnErr result
+            (HasFailed K.is_put K.written K.faults out.old out.new (waiting self.old)) }
     {
         if self.used == BLOCK {
             return self.flush(out);
@@ -82,8 +86,10 @@ impl Block {
         requires { HasRoom self.old }
         ensures faults { K.faults out.old ≤ K.faults out.new }
         ensures room { OnOk result (HasRoom self.new) }
-        ensures sent { OnOk result (HasSent K.is_put K.written out.old out.new (waiting self.old) (byte ∷ []) (waiting self.new)) }
-        ensures failed { OnErr result (HasFailed K.is_put K.written K.faults out.old out.new (waiting self.old ++ byte ∷ [])) }
+        ensures sent { OnOk result (HasSent K.is_put K.written out.old out.new (waiting self.old)
+            (byte ∷ []) (waiting self.new)) }
+        ensures failed { OnErr result (HasFailed K.is_put K.written K.faults out.old out.new
+            (waiting self.old ++ byte ∷ [])) }
     {
         self.put(byte);
         self.settle(out)
@@ -94,8 +100,10 @@ impl Block {
         requires { HasRoom self.old }
         ensures faults { K.faults out.old ≤ K.faults out.new }
         ensures room { OnOk result (HasRoom self.new) }
-        ensures sent { OnOk result (HasSent K.is_put K.written out.old out.new (waiting self.old) text.now (waiting self.new)) }
-        ensures failed { OnErr result (HasFailed K.is_put K.written K.faults out.old out.new (waiting self.old ++ text.now)) }
+        ensures sent { OnOk result (HasSent K.is_put K.written out.old out.new (waiting self.old)
+            text.now (waiting self.new)) }
+        ensures failed { OnErr result
+            (HasFailed K.is_put K.written K.faults out.old out.new (waiting self.old ++ text.now)) }
     {
         for b in text {
             match self.byte(*b, out) {
@@ -119,7 +127,8 @@ impl Block {
         ensures small { result.1 < 997 }
         ensures put { (n : ℕ) → first ≡ line_value line n → waiting self.new
             ≡ waiting self.old ++ map (made_byte line) (range_with_len n result.0) }
-        ensures next { (n : ℕ) → first ≡ line_value line n → result.1 ≡ line_value line (n + result.0) }
+        ensures next { (n : ℕ) → first ≡ line_value line n →
+            result.1 ≡ line_value line (n + result.0) }
     {
         let count = u128::from((BLOCK - self.used) as u64).min(left) as usize;
         let next = put_bits(&mut self.bytes, self.used, count, line, first);

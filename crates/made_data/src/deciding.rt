@@ -16,8 +16,8 @@ use std::alloc::Global;
 fn decide_data<H: Shelf>(alloc: Global, soc: &str, seed: u64, shelf: &mut H) -> Ending
     ensures held_stays { H.held shelf.new ≡ H.held shelf.old }
     ensures faults_never_fall { H.faults shelf.old ≤ H.faults shelf.new }
-    ensures closes { Closes (procedure_of (Data soc.now seed)) (H.held shelf.old) (H.faults shelf.old)
-        (H.faults shelf.new) (ending_value result) }
+    ensures closes { Closes (procedure_of (Data soc.now seed)) (H.held shelf.old)
+        (H.faults shelf.old) (H.faults shelf.new) (ending_value result) }
     ensures by_loads { LoadsEnding H.is_load (procedure_of (Data soc.now seed))
         shelf.old (ending_value result) shelf.new }
     ensures writable { IsWritable result }
@@ -32,13 +32,15 @@ fn decide_data<H: Shelf>(alloc: Global, soc: &str, seed: u64, shelf: &mut H) -> 
 pub(crate) fn decide<H: Shelf>(alloc: Global, words: &[String], shelf: &mut H) -> Ending
     ensures held_stays { H.held shelf.new ≡ H.held shelf.old }
     ensures faults_never_fall { H.faults shelf.old ≤ H.faults shelf.new }
-    ensures closes { Closes (asked procedure_of (asked_command (map string_bytes words.now))) (H.held shelf.old) (H.faults shelf.old)
-        (H.faults shelf.new) (ending_value result) }
+    ensures closes { Closes (asked procedure_of (asked_command (map string_bytes words.now)))
+        (H.held shelf.old) (H.faults shelf.old) (H.faults shelf.new) (ending_value result) }
     ensures by_loads { LoadsEnding H.is_load
         (asked procedure_of (asked_command (map string_bytes words.now)))
         shelf.old (ending_value result) shelf.new }
     ensures writable { IsWritable result }
-    ensures untouched { (IsCommand (asked procedure_of (asked_command (map string_bytes words.now))) → ⊥) → shelf.new ≡ shelf.old }
+    ensures untouched { (IsCommand
+        (asked procedure_of (asked_command (map string_bytes words.now))) → ⊥) →
+        shelf.new ≡ shelf.old }
 {
     match command_of(words) {
         Some(Command::Data { soc, seed }) => decide_data(alloc, soc, seed, shelf),

@@ -35,8 +35,9 @@ fn long_line(alloc: Global, bytes: u128) -> Result<Vec<u8>, NoMemory>
 fn write_made<K: Sink>(alloc: Global, soc: &Soc, seed: u64, out: &mut K) -> Status
     requires sound { IsSoundChip (soc_value soc.now) }
     ensures faults_never_fall { K.faults out.old ≤ K.faults out.new }
-    ensures written { WritesUnless (long_refusal (made_text (soc_value soc.now) seed)) (made_text (soc_value soc.now) seed)
-        (K.faults out.old) (K.faults out.new) (K.written out.old) result (K.written out.new) }
+    ensures written { WritesUnless (long_refusal (made_text (soc_value soc.now) seed))
+        (made_text (soc_value soc.now) seed) (K.faults out.old) (K.faults out.new)
+        (K.written out.old) result (K.written out.new) }
     ensures puts { MakesPuts K.is_put out.old result out.new }
 {
     match MadeData::new(alloc, soc, seed) {
@@ -60,8 +61,8 @@ fn write_made<K: Sink>(alloc: Global, soc: &Soc, seed: u64, out: &mut K) -> Stat
 pub fn write_ending<K: Sink>(alloc: Global, ending: Ending, out: &mut K) -> Status
     requires { IsWritable ending }
     ensures faults_never_fall { K.faults out.old ≤ K.faults out.new }
-    ensures written { WritesEnding (ending_value ending) (K.faults out.old) (K.faults out.new) (K.written out.old) result
-        (K.written out.new) }
+    ensures written { WritesEnding (ending_value ending) (K.faults out.old) (K.faults out.new)
+        (K.written out.old) result (K.written out.new) }
     ensures puts { PutsEnding K.is_put (ending_value ending) out.old result out.new }
 {
     match ending {

@@ -45,7 +45,8 @@ fn part_of(
     at: usize,
     test: &Test,
 ) -> Result<Part, NoMemory>
-    ensures { IfOk result (λ p. part_value p ≡ the_part seed place (module_value «module».now) at test.now) }
+    ensures { IfOk result
+        (λ p. part_value p ≡ the_part seed place (module_value «module».now) at test.now) }
 {
     let id = TestId {
         module: module.number,

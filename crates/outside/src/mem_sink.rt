@@ -39,7 +39,8 @@ impl Model for MemSink {
       faults = s.faults;
     } };
 
-    ghost invariant = { λ s. (vec_len s.bytes ≤ s.room) × (s.room ≤ vec_capacity s.bytes) × (1 ≤ s.most) };
+    ghost invariant = { λ s. (vec_len s.bytes ≤ s.room) × (s.room ≤ vec_capacity s.bytes)
+        × (1 ≤ s.most) };
 }
 
 impl MemSink {
@@ -47,8 +48,9 @@ impl MemSink {
     /// put is to fail, none is counted, and there is no fault. The room is taken now, so that no put wants memory.
     pub fn new(alloc: Global, room: usize, most: usize) -> Result<MemSink, NoMemory>
         requires { 1 ≤ most }
-        ensures { IfOk result (λ sink.
-            sink ≡ record { written = []; room = room; most = most; failing = []; calls = 0; faults = 0 }) }
+        ensures { IfOk result (λ sink. sink
+            ≡ record
+            { written = []; room = room; most = most; failing = []; calls = 0; faults = 0 }) }
     {
         let bytes = Vec::with_capacity(alloc, room)?;
         Ok(MemSink {
@@ -63,7 +65,8 @@ impl MemSink {
 
     /// Lists a put that is to fail, by its number from 0. All else stays. After `NoMemory` the sink is as it was.
     pub fn fail_at(&mut self, call: u64) -> Result<(), NoMemory>
-        ensures ok { OnOk result (self.new ≡ record self.old { failing = self.old.failing ++ call ∷ [] }) }
+        ensures ok { OnOk result
+            (self.new ≡ record self.old { failing = self.old.failing ++ call ∷ [] }) }
         ensures err { OnErr result (self.new ≡ self.old) }
     {
         push(&mut self.failing, call)
@@ -97,14 +100,18 @@ impl Sink for MemSink {
         ensures within_piece { (n : ℕ) → result ≡ Put.Taken n → n ≤ length piece.now }
         ensures progress { (n : ℕ) → result ≡ Put.Taken n → 0 < length piece.now → 0 < n }
         ensures failed { result ≡ Put.Failed → Rose self.old.faults self.new.faults }
-        ensures failed_writes_nothing { result ≡ Put.Failed → Some self.new.written ≡ Some self.old.written }
+        ensures failed_writes_nothing { result ≡ Put.Failed →
+            Some self.new.written ≡ Some self.old.written }
         ensures put { IsPut self.old piece.now result self.new }
 
         // What this one adds.
         ensures fails { OnTrue (fails_now self.old piece.now) (result ≡ Put.Failed) }
-        ensures after_fault { OnTrue (fails_now self.old piece.now) (self.new ≡ after_failing self.old) }
-        ensures takes { OnFalse (fails_now self.old piece.now) (self.new ≡ after_taking self.old piece.now) }
-        ensures takes_count { OnFalse (fails_now self.old piece.now) (result ≡ Put.Taken (share_of self.old piece.now)) }
+        ensures after_fault { OnTrue (fails_now self.old piece.now)
+            (self.new ≡ after_failing self.old) }
+        ensures takes { OnFalse (fails_now self.old piece.now)
+            (self.new ≡ after_taking self.old piece.now) }
+        ensures takes_count { OnFalse (fails_now self.old piece.now)
+            (result ≡ Put.Taken (share_of self.old piece.now)) }
     {
         let call = self.calls;
         self.calls = call.saturating_add(1);

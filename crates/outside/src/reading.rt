@@ -75,7 +75,8 @@ pub trait Reader<'a>: Sized {
     /// Ends the text. `Refused` comes only where its words are no whole list.
     fn end(self) -> Result<Self::Value, Stop>
         requires { (words : List ReadWord) × has_read self words }
-        ensures { (words : List ReadWord) → length words ≤ most → has_read self words → Ends whole says words result };
+        ensures { (words : List ReadWord) → length words ≤ most → has_read self words →
+            Ends whole says words result };
 }
 
 /// Reads a text by a reader that has read nothing yet.

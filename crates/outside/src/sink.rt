@@ -53,7 +53,8 @@ pub fn put_all<K: Sink>(out: &mut K, bytes: &[u8]) -> Result<(), WriteFault>
     ensures faults_never_fall { K.faults out.old ≤ K.faults out.new }
     ensures all { OnOk result (Appended (K.written out.old) bytes.now (K.written out.new)) }
     ensures front { OnErr result (AppendedFront (K.written out.old) bytes.now (K.written out.new)) }
-    ensures shorter { OnErr result (AppendedShorter (K.written out.old) bytes.now (K.written out.new)) }
+    ensures shorter { OnErr result
+        (AppendedShorter (K.written out.old) bytes.now (K.written out.new)) }
     ensures fault { OnErr result (Rose (K.faults out.old) (K.faults out.new)) }
 
     // With no bytes the sink is not called.

@@ -30,7 +30,8 @@ pub fn add_item(row: &mut [u64], end: usize, cells: usize, net: u64)
     requires within { end ≤ length row.old }
     requires small { (x : ℕ) → x < end → slice_index row.old x + net ≤ 10 ^ 18 }
     ensures long { length row.new ≡ length row.old }
-    ensures row { (x : ℕ) → x < end → slice_index row.new x ≡ with_item true cells net (slice_index row.old) x }
+    ensures row { (x : ℕ) → x < end →
+        slice_index row.new x ≡ with_item true cells net (slice_index row.old) x }
 {
     let mut x = end;
     while cells < x {

@@ -9,7 +9,8 @@ fn most_with_bus(row: &[u128], worth: &[u64], first: usize, high: usize, x: usiz
     requires some { x < length row.now + first }
     requires worth { high < length worth.now }
     requires small { (y : ℕ) → y + first ≤ x → slice_index row.now y ≤ 2 ^ 100 }
-    ensures most { (width : ℕ) → IsWidth first high x width → with_bus (slice_index worth.now) (slice_index row.now) x width ≤ result }
+    ensures most { (width : ℕ) → IsWidth first high x width →
+        with_bus (slice_index worth.now) (slice_index row.now) x width ≤ result }
     ensures reached { (result ≡ 0 → ⊥) → (width : ℕ) × IsWidth first high x width ×
         (with_bus (slice_index worth.now) (slice_index row.now) x width ≡ result) }
 {
@@ -28,7 +29,8 @@ pub fn fill_rest(row: &mut [u128], end: usize, worth: &[u64], high: usize)
     requires worth { high < length worth.now }
     requires small { (width : ℕ) → width ≤ high → slice_index worth.now width ≤ 10 ^ 18 }
     ensures long { length row.new ≡ length row.old }
-    ensures row { (x : ℕ) → x < end → IsWithRest (slice_index worth.now) (slice_index row.new) high x (slice_index row.new x) }
+    ensures row { (x : ℕ) → x < end →
+        IsWithRest (slice_index worth.now) (slice_index row.new) high x (slice_index row.new x) }
     ensures small { (x : ℕ) → x < end → slice_index row.new x ≤ x * 10 ^ 18 }
 {
     for x in 0..end {

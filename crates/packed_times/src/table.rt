@@ -46,7 +46,8 @@ impl<'a> Model for PackedTimes<'a> {
 
     ghost view = { λ t. record { chip = soc_value t.soc.now; wires = t.wires } };
 
-    ghost invariant = { λ t. IsTable (record { chip = soc_value t.soc.now; wires = t.wires }) t.rows.items };
+    ghost invariant = { λ t. IsTable (record { chip = soc_value t.soc.now; wires = t.wires })
+        t.rows.items };
 }
 
 /// The cycles of the module's live tests over the wires on each width from 1 on, together, where its scan chains are
@@ -59,7 +60,8 @@ fn tam_row(
 ) -> Result<Vec<u64>, NoMemory>
     requires work { works_of (module_value «module».now) «module».now.tests.items ≤ 10 ^ 18 }
     requires flops { flops ≡ sum «module».now.chains.items }
-    requires lengths { lengths.now ≡ map (packed «module».now.chains.items) (range_with_len 1 (length lengths.now)) }
+    requires lengths { lengths.now
+        ≡ map (packed «module».now.chains.items) (range_with_len 1 (length lengths.now)) }
     ensures { IfOk result (λ row.
         row.items ≡ map (λ w. tam_times_of (module_value «module».now) w «module».now.tests.items)
         (range_with_len 1 (length lengths.now))) }
@@ -107,7 +109,8 @@ fn module_times(alloc: Global, module: &Module, wires: u64) -> Result<ModuleTime
     requires work { works_of (module_value «module».now) «module».now.tests.items ≤ 10 ^ 18 }
     requires flops { sum «module».now.chains.items < 2 ^ 63 }
     requires wires { wires ≤ 256 }
-    ensures row { IfOk result (λ times. row_value times ≡ row_of wires (module_value «module».now)) }
+    ensures row { IfOk result
+        (λ times. row_value times ≡ row_of wires (module_value «module».now)) }
     ensures changes { IfOk result HasChanges }
 {
     let flops = flops_of(&module.chains);
@@ -128,7 +131,8 @@ fn module_times(alloc: Global, module: &Module, wires: u64) -> Result<ModuleTime
 fn all_rows(alloc: Global, soc: &Soc, wires: u64) -> Result<Vec<ModuleTimes>, NoMemory>
     requires sound { IsSoundChip (soc_value soc.now) }
     requires wires { wires ≤ 256 }
-    ensures rows { IfOk result (λ rows. map row_value rows.items ≡ map (row_of wires) (soc_value soc.now).modules) }
+    ensures rows { IfOk result
+        (λ rows. map row_value rows.items ≡ map (row_of wires) (soc_value soc.now).modules) }
     ensures changes { IfOk result (λ rows. All HasChanges rows.items) }
 {
     let mut rows = Vec::new(alloc);
@@ -146,7 +150,8 @@ impl<'a> PackedTimes<'a> {
         requires sound { IsSoundChip (soc_value soc.now) }
         requires some_wire { 1 ≤ wires }
         requires few_wires { wires ≤ 256 }
-        ensures { IfOk result (λ times. times ≡ record { chip = soc_value soc.now; wires = wires }) }
+        ensures { IfOk result
+            (λ times. times ≡ record { chip = soc_value soc.now; wires = wires }) }
     {
         let rows = all_rows(alloc, soc, wires)?;
         Ok(PackedTimes { soc, wires, rows })
@@ -174,7 +179,8 @@ impl<'a> PackedTimes<'a> {
         ensures same { (w : ℕ) → width ≤ w → w < result → packed_tam_time self.now.chip place w
             ≡ packed_tam_time self.now.chip place width }
         ensures other { result ≤ self.now.wires →
-            packed_tam_time self.now.chip place result ≡ packed_tam_time self.now.chip place width → ⊥ }
+            packed_tam_time self.now.chip place result ≡ packed_tam_time self.now.chip place width →
+            ⊥ }
     {
         self.rows[place].next[(width - 1) as usize] + 1
     }
@@ -194,8 +200,10 @@ impl<'a> PackedTimes<'a> {
         requires some_wire { 1 ≤ width }
         requires few_wires { width ≤ self.now.wires }
         requires live { IsTrue (is_live test.now) }
-        requires work { (m : ModuleValue) → slice_get self.now.chip.modules place ≡ Some m → test_work m test.now ≤ 10 ^ 18 }
-        ensures time { (m : ModuleValue) → slice_get self.now.chip.modules place ≡ Some m → result ≡ packed_time m test.now width }
+        requires work { (m : ModuleValue) → slice_get self.now.chip.modules place ≡ Some m →
+            test_work m test.now ≤ 10 ^ 18 }
+        ensures time { (m : ModuleValue) → slice_get self.now.chip.modules place ≡ Some m →
+            result ≡ packed_time m test.now width }
         ensures small { result ≤ 10 ^ 18 }
     {
         let row = &self.rows[place];

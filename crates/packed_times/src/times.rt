@@ -53,7 +53,8 @@ pub fn test_time(module: &Module, packing: &Packing, test: &Test) -> u64
 pub fn tam_time(module: &Module, packing: &Packing) -> u64
     requires packing { IsPackingOf (module_value «module».now) packing.now }
     requires work { works_of (module_value «module».now) «module».now.tests.items ≤ 10 ^ 18 }
-    ensures time { result ≡ tam_times_of (module_value «module».now) packing.now.width «module».now.tests.items }
+    ensures time { result
+        ≡ tam_times_of (module_value «module».now) packing.now.width «module».now.tests.items }
     ensures small { result ≤ 10 ^ 18 }
 {
     let mut sum = 0u64;

@@ -74,7 +74,8 @@ fn count_below(keys: &[u128], key: u128) -> usize
 /// How many rectangles of a band start before a cycle.
 fn earlier_in(starts: &[u128], band: u64, cycle: u64) -> usize
     requires { IsNonDecreasing starts.now }
-    ensures { (drawn : List the_rectangle) → AreStarts drawn starts.now → result ≡ earlier drawn band cycle }
+    ensures { (drawn : List the_rectangle) → AreStarts drawn starts.now →
+        result ≡ earlier drawn band cycle }
 {
     let all = count_below(starts, key_of(band, cycle));
     all.saturating_sub(count_below(starts, key_of(band, 0)))
@@ -83,7 +84,8 @@ fn earlier_in(starts: &[u128], band: u64, cycle: u64) -> usize
 /// The fill of a rectangle among those that have these starts.
 pub fn fill_of(starts: &[u128], one: &Drawn) -> u8
     requires { IsNonDecreasing starts.now }
-    ensures is { (drawn : List the_rectangle) → AreStarts drawn starts.now → result ≡ the_fill drawn one.now }
+    ensures is { (drawn : List the_rectangle) → AreStarts drawn starts.now →
+        result ≡ the_fill drawn one.now }
     ensures few { result < 4 }
 {
     let band = band_of(one);

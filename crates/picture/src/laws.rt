@@ -17,22 +17,24 @@ ghost use Rattle.picture.specs.Rectangles.{bus_wires, laned, wired};
 /// lanes beside each other. All is in cycles, wires, lanes and powers, before they are scaled to units. No module's name, as it is
 /// written, begins or ends a tag, and it shows at most 64 characters. The scale of four cycles or more has five to ten marks.
 pub fn good_plans_draw_right()
-    ensures drawn { (soc : SocValue) (limits : LimitsValue) (plan : PlanValue) → IsGood soc limits plan →
+    ensures drawn { (soc : SocValue) (limits : LimitsValue) (plan : PlanValue) →
+        IsGood soc limits plan →
         AreDrawn (wired (bus_wires plan) (placed_tests soc plan)) (placed_tests soc plan) }
-    ensures apart { (soc : SocValue) (limits : LimitsValue) (plan : PlanValue) → IsGood soc limits plan →
-        AreApart (wired (bus_wires plan) (placed_tests soc plan)) }
-    ensures lanes { (soc : SocValue) (limits : LimitsValue) (plan : PlanValue) → IsGood soc limits plan →
-        AreApart (laned [] (self_tests soc plan)) }
-    ensures within { (soc : SocValue) (limits : LimitsValue) (plan : PlanValue) → IsGood soc limits plan →
-        StaysWithin limits (plan_steps soc limits plan) }
-    ensures used { (soc : SocValue) (limits : LimitsValue) (plan : PlanValue) → IsGood soc limits plan →
+    ensures apart { (soc : SocValue) (limits : LimitsValue) (plan : PlanValue) →
+        IsGood soc limits plan → AreApart (wired (bus_wires plan) (placed_tests soc plan)) }
+    ensures lanes { (soc : SocValue) (limits : LimitsValue) (plan : PlanValue) →
+        IsGood soc limits plan → AreApart (laned [] (self_tests soc plan)) }
+    ensures within { (soc : SocValue) (limits : LimitsValue) (plan : PlanValue) →
+        IsGood soc limits plan → StaysWithin limits (plan_steps soc limits plan) }
+    ensures used { (soc : SocValue) (limits : LimitsValue) (plan : PlanValue) →
+        IsGood soc limits plan →
         ShowsUse (wired (bus_wires plan) (placed_tests soc plan)) (planned soc plan) }
-    ensures self_drawn { (soc : SocValue) (limits : LimitsValue) (plan : PlanValue) → IsGood soc limits plan →
-        AreLaned (laned [] (self_tests soc plan)) (placed_tests soc plan) }
-    ensures told_apart { (soc : SocValue) (limits : LimitsValue) (plan : PlanValue) → IsGood soc limits plan →
-        AreToldApart (wired (bus_wires plan) (placed_tests soc plan)) }
-    ensures lanes_told_apart { (soc : SocValue) (limits : LimitsValue) (plan : PlanValue) → IsGood soc limits plan →
-        AreToldApart (laned [] (self_tests soc plan)) }
+    ensures self_drawn { (soc : SocValue) (limits : LimitsValue) (plan : PlanValue) →
+        IsGood soc limits plan → AreLaned (laned [] (self_tests soc plan)) (placed_tests soc plan) }
+    ensures told_apart { (soc : SocValue) (limits : LimitsValue) (plan : PlanValue) →
+        IsGood soc limits plan → AreToldApart (wired (bus_wires plan) (placed_tests soc plan)) }
+    ensures lanes_told_apart { (soc : SocValue) (limits : LimitsValue) (plan : PlanValue) →
+        IsGood soc limits plan → AreToldApart (laned [] (self_tests soc plan)) }
     ensures names { (name : List ℕ) → list_all is_plain (spaced_name name) ≡ true }
     ensures short { (name : List ℕ) → length (shown name) ≤ 64 }
     ensures marks { (cycles : ℕ) → 4 ≤ cycles → cycles < 2 ^ 64 → HasFewMarks cycles }

@@ -70,10 +70,13 @@ fn steps_below(
     tests: &[PlacedTest],
     most: u64,
 ) -> Result<Vec<(u64, u64)>, NoMemory>
-    requires steps { (i : ℕ) (t : the_placed) → slice_get tests.now i ≡ Some t → HasSteps (limits_value limits.now) t }
+    requires steps { (i : ℕ) (t : the_placed) → slice_get tests.now i ≡ Some t →
+        HasSteps (limits_value limits.now) t }
     requires within { (c : ℕ) → drawn_by (limits_value limits.now) tests.now c ≤ most }
-    ensures { (last : ℕ) → ((i : ℕ) (t : the_placed) → slice_get tests.now i ≡ Some t → t.end ≤ last) →
-        IfOk result (λ steps. steps.items ≡ load_steps (drawn_by (limits_value limits.now) tests.now) last) }
+    ensures { (last : ℕ) →
+        ((i : ℕ) (t : the_placed) → slice_get tests.now i ≡ Some t → t.end ≤ last) →
+        IfOk result (λ steps. steps.items
+        ≡ load_steps (drawn_by (limits_value limits.now) tests.now) last) }
 {
     power_steps(alloc, limits, tests)
 }
@@ -84,10 +87,15 @@ fn steps_under(
     limits: &Limits,
     tests: &[PlacedTest],
 ) -> Result<Vec<(u64, u64)>, NoMemory>
-    requires steps { (i : ℕ) (t : the_placed) → slice_get tests.now i ≡ Some t → HasSteps (limits_value limits.now) t }
-    requires within { (most : ℕ) → limits.now.power ≡ Some most → (c : ℕ) → drawn_by (limits_value limits.now) tests.now c ≤ most }
-    ensures { (last most : ℕ) → ((i : ℕ) (t : the_placed) → slice_get tests.now i ≡ Some t → t.end ≤ last) → limits.now.power ≡ Some most →
-        IfOk result (λ steps. steps.items ≡ load_steps (drawn_by (limits_value limits.now) tests.now) last) }
+    requires steps { (i : ℕ) (t : the_placed) → slice_get tests.now i ≡ Some t →
+        HasSteps (limits_value limits.now) t }
+    requires within { (most : ℕ) → limits.now.power ≡ Some most → (c : ℕ) →
+        drawn_by (limits_value limits.now) tests.now c ≤ most }
+    ensures { (last most : ℕ) →
+        ((i : ℕ) (t : the_placed) → slice_get tests.now i ≡ Some t → t.end ≤ last) →
+        limits.now.power ≡ Some most →
+        IfOk result (λ steps. steps.items
+        ≡ load_steps (drawn_by (limits_value limits.now) tests.now) last) }
 {
     match limits.power {
         Some(most) => steps_below(alloc, limits, tests, most),
@@ -102,8 +110,10 @@ fn parts_with(
     plan: &Plan,
     placed: &[PlacedTest],
 ) -> Result<Parts, NoMemory>
-    requires { (soc : SocValue) × AreTestsOf soc (limits_value limits.now) (plan_value plan.now) placed.now }
-    ensures { (soc : SocValue) → AreTestsOf soc (limits_value limits.now) (plan_value plan.now) placed.now →
+    requires { (soc : SocValue)
+        × AreTestsOf soc (limits_value limits.now) (plan_value plan.now) placed.now }
+    ensures { (soc : SocValue) →
+        AreTestsOf soc (limits_value limits.now) (plan_value plan.now) placed.now →
         IfOk result (AreParts soc (limits_value limits.now) (plan_value plan.now)) }
 {
     good_without_limits();
@@ -144,7 +154,9 @@ fn push_wires(
     drawn: &[Drawn],
 ) -> Result<(), NoMemory>
     ensures { (tests : List the_placed) → drawn.now ≡ the_wired (between firsts.now) tests →
-        OnOk result (text.new.items ≡ text.old.items ++ wires_text (soc_value soc.now) panel.now (between firsts.now) tests) }
+        OnOk result (text.new.items
+        ≡ text.old.items
+        ++ wires_text (soc_value soc.now) panel.now (between firsts.now) tests) }
 {
     push_buses(text, panel, firsts)?;
     push_tests(alloc, text, soc, panel, drawn)
@@ -162,8 +174,11 @@ fn push_inner(
 ) -> Result<(), NoMemory>
     requires lanes { parts.now.lanes.top + parts.now.lanes.height ≤ 2 ^ 33 }
     requires small { parts.now.bottom ≤ 2 ^ 34 }
-    ensures { (limits : LimitsValue) (plan : PlanValue) → AreParts (soc_value soc.now) limits plan parts.now → power ≡ limits.power →
-        cycles ≡ plan.cycles → OnOk result (text.new.items ≡ text.old.items ++ inner_text (soc_value soc.now) limits plan mark) }
+    ensures { (limits : LimitsValue) (plan : PlanValue) →
+        AreParts (soc_value soc.now) limits plan parts.now → power ≡ limits.power →
+        cycles ≡ plan.cycles →
+        OnOk result
+        (text.new.items ≡ text.old.items ++ inner_text (soc_value soc.now) limits plan mark) }
 {
     push_wires(alloc, text, soc, &parts.wires, &parts.firsts, &parts.wired)?;
     push_lanes(alloc, text, soc, &parts.lanes, &parts.laned)?;
@@ -181,7 +196,8 @@ fn print_with(
 ) -> Result<Vec<u8>, NoMemory>
     requires sound_limits { IsSoundLimits placed.now.soc (limits_value limits.now) }
     requires good { IsGood placed.now.soc (limits_value limits.now) placed.now.plan }
-    ensures { IfOk result (λ text. text.items ≡ picture_with placed.now.soc (limits_value limits.now) placed.now.plan mark) }
+    ensures { IfOk result (λ text. text.items
+        ≡ picture_with placed.now.soc (limits_value limits.now) placed.now.plan mark) }
 {
     let parts = parts_of(alloc, limits, placed)?;
     let cycles = placed.plan.cycles;
@@ -219,7 +235,8 @@ pub fn print_picture(
 ) -> Result<Vec<u8>, NoMemory>
     requires sound_limits { IsSoundLimits placed.now.soc (limits_value limits.now) }
     requires good { IsGood placed.now.soc (limits_value limits.now) placed.now.plan }
-    ensures text { IfOk result (λ text. text.items ≡ picture_text placed.now.soc (limits_value limits.now) placed.now.plan) }
+    ensures text { IfOk result (λ text. text.items
+        ≡ picture_text placed.now.soc (limits_value limits.now) placed.now.plan) }
 {
     let mark = BoundMark {
         cycles: placed.plan.bound.cycles,
@@ -238,7 +255,8 @@ pub fn print_picture_of_claim(
 ) -> Result<Vec<u8>, NoMemory>
     requires sound_limits { IsSoundLimits placed.now.soc (limits_value limits.now) }
     requires good { IsGood placed.now.soc (limits_value limits.now) placed.now.plan }
-    ensures text { IfOk result (λ text. text.items ≡ picture_of_claim placed.now.soc (limits_value limits.now) placed.now.plan claim) }
+    ensures text { IfOk result (λ text. text.items
+        ≡ picture_of_claim placed.now.soc (limits_value limits.now) placed.now.plan claim) }
 {
     let mark = BoundMark {
         cycles: claim,

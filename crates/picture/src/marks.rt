@@ -211,7 +211,8 @@ fn push_box(
     test: &PlacedTest,
 ) -> Result<(), NoMemory>
     requires { fill < 4 }
-    ensures { OnOk result (text.new.items ≡ text.old.items ++ box_text outline.now fill name.now test.now) }
+    ensures { OnOk result
+        (text.new.items ≡ text.old.items ++ box_text outline.now fill name.now test.now) }
 {
     extend(text, b"<rect class='")?;
     push_fill(text, fill)?;
@@ -266,7 +267,8 @@ fn push_named_test(
     test: &PlacedTest,
 ) -> Result<(), NoMemory>
     requires { fill < 4 }
-    ensures { OnOk result (text.new.items ≡ text.old.items ++ named_test outline.now fill name.now test.now) }
+    ensures { OnOk result
+        (text.new.items ≡ text.old.items ++ named_test outline.now fill name.now test.now) }
 {
     push_box(text, outline, fill, name, test)?;
     push_label_within(text, outline, test.id, name)
@@ -282,7 +284,8 @@ fn push_test(
 ) -> Result<(), NoMemory>
     requires { IsNonDecreasing starts.now }
     ensures { (drawn : List the_rectangle) → AreStarts drawn starts.now →
-        OnOk result (text.new.items ≡ text.old.items ++ test_text (soc_value soc.now) panel.now drawn one.now) }
+        OnOk result (text.new.items
+        ≡ text.old.items ++ test_text (soc_value soc.now) panel.now drawn one.now) }
 {
     let outline = outline_of(panel, &one.rectangle);
     let fill = fill_of(starts, one);
@@ -298,7 +301,8 @@ pub fn push_tests(
     panel: &Panel,
     drawn: &[Drawn],
 ) -> Result<(), NoMemory>
-    ensures { OnOk result (text.new.items ≡ text.old.items ++ test_texts (soc_value soc.now) panel.now drawn.now) }
+    ensures { OnOk result
+        (text.new.items ≡ text.old.items ++ test_texts (soc_value soc.now) panel.now drawn.now) }
 {
     let starts = sorted_starts(alloc, drawn)?;
     for one in drawn {
@@ -309,7 +313,8 @@ pub fn push_tests(
 
 /// Appends the word behind a number of wires.
 fn push_wires_word(text: &mut Vec<u8>, wires: u64) -> Result<(), NoMemory>
-    ensures { OnOk result (text.new.items ≡ text.old.items ++ (if nat_eq wires 1 then codes " wire" else codes " wires")) }
+    ensures { OnOk result (text.new.items
+        ≡ text.old.items ++ (if nat_eq wires 1 then codes " wire" else codes " wires")) }
 {
     if wires == 1 {
         return extend(text, b" wire");
@@ -388,7 +393,8 @@ fn push_bus(
 
 /// Appends all buses, of which these are the first wires, with the number of all wires behind them.
 pub fn push_buses(text: &mut Vec<u8>, panel: &Panel, firsts: &[u64]) -> Result<(), NoMemory>
-    ensures { OnOk result (text.new.items ≡ text.old.items ++ bus_texts panel.now 0 (between firsts.now)) }
+    ensures { OnOk result
+        (text.new.items ≡ text.old.items ++ bus_texts panel.now 0 (between firsts.now)) }
 {
     for place in 0..bus_count(firsts) {
         push_bus(text, panel, place, (firsts[place], firsts[place + 1]))?;

@@ -71,7 +71,8 @@ fn push_mark(text: &mut Vec<u8>, cycles: u64, bottom: u64, cycle: u64) -> Result
 fn push_marks(text: &mut Vec<u8>, step: u64, cycles: u64, bottom: u64) -> Result<(), NoMemory>
     requires some { 1 ≤ step }
     requires small { bottom ≤ 2 ^ 40 }
-    ensures { OnOk result (text.new.items ≡ text.old.items ++ flat_map (mark_line cycles bottom) (marks_by step cycles)) }
+    ensures { OnOk result (text.new.items
+        ≡ text.old.items ++ flat_map (mark_line cycles bottom) (marks_by step cycles)) }
 {
     for place in 0..mark_count(step, cycles) {
         push_mark(text, cycles, bottom, mark_at(place, step, cycles))?;
@@ -112,7 +113,8 @@ fn push_mark_numbers(
 ) -> Result<(), NoMemory>
     requires some { 1 ≤ step }
     requires small { bottom ≤ 2 ^ 40 }
-    ensures { OnOk result (text.new.items ≡ text.old.items ++ flat_map (mark_number cycles bottom) (marks_by step cycles)) }
+    ensures { OnOk result (text.new.items
+        ≡ text.old.items ++ flat_map (mark_number cycles bottom) (marks_by step cycles)) }
 {
     for place in 0..mark_count(step, cycles) {
         push_mark_number(text, cycles, bottom, mark_at(place, step, cycles))?;

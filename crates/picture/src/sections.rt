@@ -90,7 +90,8 @@ pub fn push_lanes(
     panel: &Panel,
     drawn: &[Drawn],
 ) -> Result<(), NoMemory>
-    ensures { OnOk result (text.new.items ≡ text.old.items ++ lanes_text (soc_value soc.now) panel.now drawn.now) }
+    ensures { OnOk result
+        (text.new.items ≡ text.old.items ++ lanes_text (soc_value soc.now) panel.now drawn.now) }
 {
     push_lanes_name(text, panel.rows, panel.top)?;
     push_tests(alloc, text, soc, panel, drawn)
@@ -129,7 +130,8 @@ fn push_steps(
     steps: &[(u64, u64)],
 ) -> Result<(), NoMemory>
     requires { top ≤ 2 ^ 40 }
-    ensures { OnOk result (text.new.items ≡ text.old.items ++ flat_map (step_text top cycles most) steps.now) }
+    ensures { OnOk result
+        (text.new.items ≡ text.old.items ++ flat_map (step_text top cycles most) steps.now) }
 {
     for step in steps {
         push_step(text, top, cycles, most, *step)?;
@@ -181,7 +183,8 @@ pub fn push_power(
     steps: &[(u64, u64)],
 ) -> Result<(), NoMemory>
     requires { top ≤ 2 ^ 40 }
-    ensures { OnOk result (text.new.items ≡ text.old.items ++ power_text top cycles power steps.now) }
+    ensures { OnOk result
+        (text.new.items ≡ text.old.items ++ power_text top cycles power steps.now) }
 {
     match power {
         Some(most) => {

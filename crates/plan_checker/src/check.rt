@@ -58,8 +58,8 @@ impl Model for Scratch {
 impl Scratch {
     /// Room for a plan of a chip of these sizes.
     fn sized(alloc: Global, sizes: &CheckSizes, plan: &Plan) -> Result<Scratch, NoMemory>
-        ensures { IfOk result (λ room. (room.modules ≡ sizes.now.modules) × (sizes.now.pairs ≤ room.pairs)
-            × (room.tests ≡ sizes.now.tests)) }
+        ensures { IfOk result (λ room. (room.modules ≡ sizes.now.modules)
+            × (sizes.now.pairs ≤ room.pairs) × (room.tests ≡ sizes.now.tests)) }
     {
         let plan = plan_rooms(alloc, sizes, plan)?;
         let Ok(names) = IndexSet::with_capacity(alloc, sizes.tests) else {
@@ -96,11 +96,16 @@ pub(crate) fn check_all(
     requires early { All (λ (s : TestId × ℕ). s.1 ≤ START_MOST) plan.now.starts.items }
     requires named { FindsTests limits.now.before.items (live_ids (soc_value soc.now)) names.now }
     requires room { HasRoomFor (soc_value soc.now) room.old.rules }
-    ensures ok { OnOk result (IsFaultless (soc_value soc.now) (limits_value limits.now) (plan_value plan.now)) }
-    ensures fault { IfErr result (λ f. IsFault (soc_value soc.now) (limits_value limits.now) (plan_value plan.now) (fault_value f)) }
-    ensures exact { IsFaultless (soc_value soc.now) (limits_value limits.now) (plan_value plan.now) → IsOk result }
-    ensures bound { OnOk result (IsBound (soc_value soc.now) (limits_value limits.now) (plan_value plan.now).bound.cycles) }
-    ensures placed { OnOk result (HoldsPlaced (soc_value soc.now) (plan_value plan.now) room.new.rules.placed) }
+    ensures ok { OnOk result
+        (IsFaultless (soc_value soc.now) (limits_value limits.now) (plan_value plan.now)) }
+    ensures fault { IfErr result (λ f. IsFault (soc_value soc.now) (limits_value limits.now)
+        (plan_value plan.now) (fault_value f)) }
+    ensures exact { IsFaultless (soc_value soc.now) (limits_value limits.now)
+        (plan_value plan.now) → IsOk result }
+    ensures bound { OnOk result
+        (IsBound (soc_value soc.now) (limits_value limits.now) (plan_value plan.now).bound.cycles) }
+    ensures placed { OnOk result
+        (HoldsPlaced (soc_value soc.now) (plan_value plan.now) room.new.rules.placed) }
     ensures room { StaysRoom room.old.rules room.new.rules }
 {
     faults_are_exact();
@@ -124,10 +129,14 @@ fn check_listed(
     requires limits { IsSoundLimits (soc_value soc.now) (limits_value limits.now) }
     requires early { All (λ (s : TestId × ℕ). s.1 ≤ START_MOST) plan.now.starts.items }
     requires room { HasNamedRoomFor (soc_value soc.now) room.old }
-    ensures ok { OnOk result (IsFaultless (soc_value soc.now) (limits_value limits.now) (plan_value plan.now)) }
-    ensures fault { IfErr result (λ f. IsFault (soc_value soc.now) (limits_value limits.now) (plan_value plan.now) (fault_value f)) }
-    ensures exact { IsFaultless (soc_value soc.now) (limits_value limits.now) (plan_value plan.now) → IsOk result }
-    ensures bound { OnOk result (IsBound (soc_value soc.now) (limits_value limits.now) (plan_value plan.now).bound.cycles) }
+    ensures ok { OnOk result
+        (IsFaultless (soc_value soc.now) (limits_value limits.now) (plan_value plan.now)) }
+    ensures fault { IfErr result (λ f. IsFault (soc_value soc.now) (limits_value limits.now)
+        (plan_value plan.now) (fault_value f)) }
+    ensures exact { IsFaultless (soc_value soc.now) (limits_value limits.now)
+        (plan_value plan.now) → IsOk result }
+    ensures bound { OnOk result
+        (IsBound (soc_value soc.now) (limits_value limits.now) (plan_value plan.now).bound.cycles) }
     ensures room { StaysNamedRoom room.old room.new }
 {
     fill_names(soc, &mut room.names);
@@ -149,12 +158,16 @@ pub fn check_plan(
     requires limits { IsSoundLimits (soc_value soc.now) (limits_value limits.now) }
     requires early { All (λ (s : TestId × ℕ). s.1 ≤ START_MOST) plan.now.starts.items }
     requires room { HasRoom (soc_value soc.now) room.old }
-    ensures ok { OnOk result (IsFaultless (soc_value soc.now) (limits_value limits.now) (plan_value plan.now)) }
-    ensures fault { IfErr result (λ f. IsFault (soc_value soc.now) (limits_value limits.now) (plan_value plan.now) (fault_value f)) }
-    ensures exact { IsFaultless (soc_value soc.now) (limits_value limits.now) (plan_value plan.now) → IsOk result }
-    ensures right { OnOk result ((content : Content) → IsRight (soc_value soc.now) (limits_value limits.now)
-        (plan_value plan.now) content) }
-    ensures bound { OnOk result (IsBound (soc_value soc.now) (limits_value limits.now) (plan_value plan.now).bound.cycles) }
+    ensures ok { OnOk result
+        (IsFaultless (soc_value soc.now) (limits_value limits.now) (plan_value plan.now)) }
+    ensures fault { IfErr result (λ f. IsFault (soc_value soc.now) (limits_value limits.now)
+        (plan_value plan.now) (fault_value f)) }
+    ensures exact { IsFaultless (soc_value soc.now) (limits_value limits.now)
+        (plan_value plan.now) → IsOk result }
+    ensures right { OnOk result ((content : Content) →
+        IsRight (soc_value soc.now) (limits_value limits.now) (plan_value plan.now) content) }
+    ensures bound { OnOk result
+        (IsBound (soc_value soc.now) (limits_value limits.now) (plan_value plan.now).bound.cycles) }
     ensures room { HasRoom (soc_value soc.now) room.new }
     ensures serves { (chip : SocValue) → HasRoom chip room.old → HasRoom chip room.new }
 {

@@ -90,8 +90,10 @@ fn first_partner(
 ) -> Option<usize>
     requires slots { PlacesWithin (length parents.now) placed.now }
     requires within { first < length placed.now }
-    ensures found { IfSome result (λ second. IsFirstPartner (keeps_apart parents.now apart) placed.now first cycle second) }
-    ensures none { IfNone result (HasNoPartner (keeps_apart parents.now apart) placed.now first cycle) }
+    ensures found { IfSome result
+        (λ second. IsFirstPartner (keeps_apart parents.now apart) placed.now first cycle second) }
+    ensures none { IfNone result
+        (HasNoPartner (keeps_apart parents.now apart) placed.now first cycle) }
 {
     if !is_active(&placed[first], cycle) {
         return None;
@@ -112,8 +114,10 @@ fn first_pair(
     cycle: u64,
 ) -> Option<ClashPlace>
     requires { PlacesWithin (length parents.now) placed.now }
-    ensures found { IfSome result (λ f. IsFirstPair (keeps_apart parents.now apart) placed.now cycle f) }
-    ensures none { IfNone result ((i : ℕ) → HasNoPartner (keeps_apart parents.now apart) placed.now i cycle) }
+    ensures found { IfSome result
+        (λ f. IsFirstPair (keeps_apart parents.now apart) placed.now cycle f) }
+    ensures none { IfNone result
+        ((i : ℕ) → HasNoPartner (keeps_apart parents.now apart) placed.now i cycle) }
 {
     for first in 0..placed.len() {
         if let Some(second) = first_partner(parents, apart, placed, first, cycle) {
@@ -207,7 +211,8 @@ pub(crate) fn check_apart(
     ends: &mut [u64],
 ) -> Option<PlanFault>
     requires { IsLayout parents.now placed.now begins.now (length ends.old) }
-    ensures { (soc : SocValue) (limits : LimitsValue) (plan : PlanValue) → placed.now ≡ placed_tests soc plan → AreParents soc parents.now →
+    ensures { (soc : SocValue) (limits : LimitsValue) (plan : PlanValue) →
+        placed.now ≡ placed_tests soc plan → AreParents soc parents.now →
         IsStage soc limits plan (rule_for apart) result }
 {
     match first_clash(parents, apart, placed, begins, ends) {

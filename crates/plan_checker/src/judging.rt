@@ -35,10 +35,14 @@ fn problem_rooms(alloc: Global, problem: &Problem<'_>, plan: &Plan) -> Result<Pl
 fn check_problem(problem: &Problem<'_>, plan: &Plan, room: &mut PlanRooms) -> Result<(), PlanFault>
     requires early { All (λ (s : TestId × ℕ). s.1 ≤ START_MOST) plan.now.starts.items }
     requires room { HasRoomFor problem.now.soc room.old.rules }
-    ensures ok { OnOk result (IsFaultless problem.now.soc problem.now.limits (plan_value plan.now)) }
-    ensures fault { IfErr result (λ f. IsFault problem.now.soc problem.now.limits (plan_value plan.now) (fault_value f)) }
-    ensures exact { IsFaultless problem.now.soc problem.now.limits (plan_value plan.now) → IsOk result }
-    ensures placed { OnOk result (HoldsPlaced problem.now.soc (plan_value plan.now) room.new.rules.placed) }
+    ensures ok { OnOk result
+        (IsFaultless problem.now.soc problem.now.limits (plan_value plan.now)) }
+    ensures fault { IfErr result
+        (λ f. IsFault problem.now.soc problem.now.limits (plan_value plan.now) (fault_value f)) }
+    ensures exact { IsFaultless problem.now.soc problem.now.limits (plan_value plan.now) →
+        IsOk result }
+    ensures placed { OnOk result
+        (HoldsPlaced problem.now.soc (plan_value plan.now) room.new.rules.placed) }
 {
     let names = TestNames::Resolved(problem.resolved);
     check_all(problem.soc, problem.limits, plan, &names, room)
@@ -65,11 +69,14 @@ pub fn judge_plan(
     plan: &Plan,
 ) -> Result<Result<Placed, PlanFault>, NoMemory>
     requires early { All (λ (s : TestId × ℕ). s.1 ≤ START_MOST) plan.now.starts.items }
-    ensures accepted { IfOk result (λ found. IfOk found (λ placed. IsFaultless problem.now.soc problem.now.limits (plan_value plan.now))) }
-    ensures placed { IfOk result (λ found. IfOk found (IsPlaced problem.now.soc (plan_value plan.now))) }
+    ensures accepted { IfOk result (λ found. IfOk found
+        (λ placed. IsFaultless problem.now.soc problem.now.limits (plan_value plan.now))) }
+    ensures placed { IfOk result
+        (λ found. IfOk found (IsPlaced problem.now.soc (plan_value plan.now))) }
     ensures fault { IfOk result (λ found. IfErr found (λ f.
         IsFault problem.now.soc problem.now.limits (plan_value plan.now) (fault_value f))) }
-    ensures exact { IfOk result (λ found. IsFaultless problem.now.soc problem.now.limits (plan_value plan.now) → IsOk found) }
+    ensures exact { IfOk result (λ found. IsFaultless problem.now.soc problem.now.limits
+        (plan_value plan.now) → IsOk found) }
 {
     let mut room = problem_rooms(alloc, problem, plan)?;
     match check_problem(problem, plan, &mut room) {

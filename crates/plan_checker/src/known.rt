@@ -34,8 +34,10 @@ fn unknown_in(soc: &Soc, listed: &[u64]) -> Option<u64>
 /// The first module of a bus that isn't in the chip.
 fn unknown_on(soc: &Soc, buses: &[Bus]) -> Option<u64>
     requires { IsSoundChip (soc_value soc.now) }
-    ensures all { IfNone result (EachOf (Contains (soc_value soc.now).keys) (flat_map (λ (b : Bus). b.modules.items) buses.now)) }
-    ensures first { IfSome result (λ m. Breaks (Contains (soc_value soc.now).keys) (flat_map (λ (b : Bus). b.modules.items) buses.now) m) }
+    ensures all { IfNone result (EachOf (Contains (soc_value soc.now).keys)
+        (flat_map (λ (b : Bus). b.modules.items) buses.now)) }
+    ensures first { IfSome result (λ m. Breaks (Contains (soc_value soc.now).keys)
+        (flat_map (λ (b : Bus). b.modules.items) buses.now) m) }
 {
     for bus in buses {
         let unknown = unknown_in(soc, &bus.modules);
@@ -49,8 +51,10 @@ fn unknown_on(soc: &Soc, buses: &[Bus]) -> Option<u64>
 /// The first module of a wrapper that isn't in the chip.
 fn unknown_of(soc: &Soc, wrappers: &[Wrapper]) -> Option<u64>
     requires { IsSoundChip (soc_value soc.now) }
-    ensures all { IfNone result (EachOf (Contains (soc_value soc.now).keys) (map (λ (w : Wrapper). w.«module») wrappers.now)) }
-    ensures first { IfSome result (λ m. Breaks (Contains (soc_value soc.now).keys) (map (λ (w : Wrapper). w.«module») wrappers.now) m) }
+    ensures all { IfNone result (EachOf (Contains (soc_value soc.now).keys)
+        (map (λ (w : Wrapper). w.«module») wrappers.now)) }
+    ensures first { IfSome result (λ m. Breaks (Contains (soc_value soc.now).keys)
+        (map (λ (w : Wrapper). w.«module») wrappers.now) m) }
 {
     for wrapper in wrappers {
         if !is_known(soc, wrapper.module) {
@@ -63,8 +67,10 @@ fn unknown_of(soc: &Soc, wrappers: &[Wrapper]) -> Option<u64>
 /// Whether the wrapper is proper for its module, if that is in the chip.
 fn cells_fit(soc: &Soc, wrapper: &Wrapper) -> bool
     requires { IsSoundChip (soc_value soc.now) }
-    ensures kept { IsTrue result → HasProperCells (soc_value soc.now) [] (wrapper_value wrapper.now) }
-    ensures broken { result ≡ false → HasProperCells (soc_value soc.now) [] (wrapper_value wrapper.now) → ⊥ }
+    ensures kept { IsTrue result →
+        HasProperCells (soc_value soc.now) [] (wrapper_value wrapper.now) }
+    ensures broken { result ≡ false →
+        HasProperCells (soc_value soc.now) [] (wrapper_value wrapper.now) → ⊥ }
 {
     match find_module(soc, wrapper.module) {
         Some(place) => is_proper(module_at(soc, place), wrapper),
@@ -75,7 +81,8 @@ fn cells_fit(soc: &Soc, wrapper: &Wrapper) -> bool
 /// The wrappers against the cells of their modules.
 fn check_wrapped(soc: &Soc, wrappers: &[Wrapper]) -> Option<PlanFault>
     requires { IsSoundChip (soc_value soc.now) }
-    ensures { (limits : LimitsValue) (plan : PlanValue) → map wrapper_value wrappers.now ≡ plan.wrappers →
+    ensures { (limits : LimitsValue) (plan : PlanValue) →
+        map wrapper_value wrappers.now ≡ plan.wrappers →
         IsStage (soc_value soc.now) limits plan Proper result }
 {
     for wrapper in wrappers {
@@ -92,7 +99,8 @@ fn check_wrapped(soc: &Soc, wrappers: &[Wrapper]) -> Option<PlanFault>
 /// The modules that the plan names against those of the chip.
 pub(crate) fn check_known(soc: &Soc, plan: &Plan) -> Option<PlanFault>
     requires { IsSoundChip (soc_value soc.now) }
-    ensures { (limits : LimitsValue) → IsStage (soc_value soc.now) limits (plan_value plan.now) Known result }
+    ensures { (limits : LimitsValue) →
+        IsStage (soc_value soc.now) limits (plan_value plan.now) Known result }
 {
     match unknown_on(soc, &plan.buses) {
         Some(module) => Some(PlanFault::UnknownModule { module }),
@@ -106,7 +114,8 @@ pub(crate) fn check_known(soc: &Soc, plan: &Plan) -> Option<PlanFault>
 /// The wrappers of the plan against the cells of their modules.
 pub(crate) fn check_cells(soc: &Soc, plan: &Plan) -> Option<PlanFault>
     requires { IsSoundChip (soc_value soc.now) }
-    ensures { (limits : LimitsValue) → IsStage (soc_value soc.now) limits (plan_value plan.now) Proper result }
+    ensures { (limits : LimitsValue) →
+        IsStage (soc_value soc.now) limits (plan_value plan.now) Proper result }
 {
     check_wrapped(soc, &plan.wrappers)
 }

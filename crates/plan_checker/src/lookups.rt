@@ -18,7 +18,8 @@ pub(crate) fn module_count(soc: &Soc) -> usize
 pub(crate) fn find_module(soc: &Soc, number: u64) -> Option<usize>
     requires { IsSoundChip (soc_value soc.now) }
     ensures found { IfSome result (λ p. slice_get (numbers (soc_value soc.now)) p ≡ Some number) }
-    ensures none { IfNone result ((p x : ℕ) → slice_get (numbers (soc_value soc.now)) p ≡ Some x → x ≢ number) }
+    ensures none { IfNone result
+        ((p x : ℕ) → slice_get (numbers (soc_value soc.now)) p ≡ Some x → x ≢ number) }
 {
     place_of(soc, number)
 }

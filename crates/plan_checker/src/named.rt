@@ -40,7 +40,8 @@ fn put_names(module: &Module, names: &mut IndexSet<TestId>)
     requires apart { AllDiffer (keys names.old ++ names_in (module_value «module».now)) }
     requires space { length (names_in (module_value «module».now)) ≤ spare names.old }
     ensures filled { keys names.new ≡ keys names.old ++ names_in (module_value «module».now) }
-    ensures space_left { length (keys names.old) + spare names.old ≤ length (keys names.new) + spare names.new }
+    ensures space_left { length (keys names.old) + spare names.old
+        ≤ length (keys names.new) + spare names.new }
 {
     for test in &module.tests {
         if test.patterns == 0 {
@@ -57,9 +58,11 @@ fn put_names(module: &Module, names: &mut IndexSet<TestId>)
 /// Writes the names of the live tests, in the order of the chip.
 pub(crate) fn fill_names(soc: &Soc, names: &mut IndexSet<TestId>)
     requires sound { IsSoundChip (soc_value soc.now) }
-    requires space { length (live_ids (soc_value soc.now)) ≤ length (keys names.old) + spare names.old }
+    requires space { length (live_ids (soc_value soc.now))
+        ≤ length (keys names.old) + spare names.old }
     ensures filled { keys names.new ≡ live_ids (soc_value soc.now) }
-    ensures space_left { length (keys names.old) + spare names.old ≤ length (keys names.new) + spare names.new }
+    ensures space_left { length (keys names.old) + spare names.old
+        ≤ length (keys names.new) + spare names.new }
 {
     names.clear();
     for place in 0..module_count(soc) {
@@ -140,7 +143,8 @@ pub(crate) fn test_named(
 ) -> Option<PlacedTest>
     requires { keys names.now ≡ names_of placed.now }
     ensures found { IfSome result (λ t. (p : ℕ) × (slice_get placed.now p ≡ Some t) × (t.id ≡ id)) }
-    ensures none { IfNone result ((p : ℕ) (t : PlacedTest) → slice_get placed.now p ≡ Some t → t.id ≡ id → ⊥) }
+    ensures none { IfNone result
+        ((p : ℕ) (t : PlacedTest) → slice_get placed.now p ≡ Some t → t.id ≡ id → ⊥) }
 {
     match listed_place(names, id) {
         Some(place) => Some(test_at(placed, place)),

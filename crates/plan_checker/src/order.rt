@@ -46,7 +46,8 @@ fn check_named(
 ) -> Option<PlanFault>
     requires named { keys names.now ≡ names_of placed.now }
     requires apart { AllDiffer (names_of placed.now) }
-    ensures { (soc : SocValue) (limits : LimitsValue) (plan : PlanValue) → placed.now ≡ placed_tests soc plan → before.now ≡ limits.before →
+    ensures { (soc : SocValue) (limits : LimitsValue) (plan : PlanValue) →
+        placed.now ≡ placed_tests soc plan → before.now ≡ limits.before →
         IsStage soc limits plan Precedences result }
 {
     for (a, b) in before {
@@ -71,10 +72,13 @@ fn in_order_at(placed: &[PlacedTest], first: usize, second: usize) -> bool
 
 /// The precedences of live tests, by the places of these, against the placed tests of a plan.
 fn check_pairs(pairs: &[(usize, usize)], placed: &[PlacedTest]) -> Option<PlanFault>
-    requires within { All (λ (e : ℕ × ℕ). (e.0 < length placed.now) × (e.1 < length placed.now)) pairs.now }
+    requires within { All (λ (e : ℕ × ℕ). (e.0 < length placed.now) × (e.1 < length placed.now))
+        pairs.now }
     requires apart { AllDiffer (names_of placed.now) }
-    ensures { (soc : SocValue) (limits : LimitsValue) (plan : PlanValue) → placed.now ≡ placed_tests soc plan →
-        pairs.now ≡ flat_map (places_of (names_of placed.now)) limits.before → IsStage soc limits plan Precedences result }
+    ensures { (soc : SocValue) (limits : LimitsValue) (plan : PlanValue) →
+        placed.now ≡ placed_tests soc plan →
+        pairs.now ≡ flat_map (places_of (names_of placed.now)) limits.before →
+        IsStage soc limits plan Precedences result }
 {
     for (first, second) in pairs {
         if !in_order_at(placed, *first, *second) {
@@ -117,7 +121,8 @@ fn latest(placed: &[PlacedTest]) -> u64
 
 /// The cycles that a plan says it takes against its tests.
 pub(crate) fn check_cycles(cycles: u64, placed: &[PlacedTest]) -> Option<PlanFault>
-    ensures { (soc : SocValue) (limits : LimitsValue) (plan : PlanValue) → placed.now ≡ placed_tests soc plan → cycles ≡ plan.cycles →
+    ensures { (soc : SocValue) (limits : LimitsValue) (plan : PlanValue) →
+        placed.now ≡ placed_tests soc plan → cycles ≡ plan.cycles →
         IsStage soc limits plan Cycles result }
 {
     let right = latest(placed);

@@ -47,7 +47,8 @@ pub(crate) struct PlanLookups<'a> {
 /// The module's wrappers, each walked once.
 fn mode_wrappers(from: &PlanLookups<'_>, place: usize, module: &Module) -> ModeWrappers
     requires placing { IsPlacing from.now }
-    requires there { slice_get (soc_value from.now.soc.now).modules place ≡ Some (module_value «module».now) }
+    requires there { slice_get (soc_value from.now.soc.now).modules place
+        ≡ Some (module_value «module».now) }
     ensures { AreModeWrappers (plan_value from.now.plan.now) (module_value «module».now) result }
 {
     let scan = from.wrappers.get_index_of(&(module.number, true));
@@ -94,8 +95,11 @@ fn wrappers_at(walked: &[ModeWrappers], place: usize) -> ModeWrappers
 fn start_at(from: &PlanLookups<'_>, test: usize) -> u64
     requires placing { IsPlacing from.now }
     requires live { test < length (live_ids (soc_value from.now.soc.now)) }
-    ensures start { (id : TestId) → slice_get (live_ids (soc_value from.now.soc.now)) test ≡ Some id →
-        result ≡ of_first (λ (s : TestId × ℕ). same_test s.0 id) (λ s. s.1) 0 from.now.plan.now.starts.items }
+    ensures start { (id : TestId) →
+        slice_get (live_ids (soc_value from.now.soc.now)) test ≡ Some id →
+        result
+        ≡ of_first (λ (s : TestId × ℕ). same_test s.0 id) (λ s. s.1) 0
+        from.now.plan.now.starts.items }
     ensures early { result ≤ 10 ^ 18 }
 {
     from.starts[test]
@@ -111,13 +115,19 @@ fn placed_of(
     at: usize,
 ) -> PlacedTest
     requires placing { IsPlacing from.now }
-    requires there { slice_get (soc_value from.now.soc.now).modules place ≡ Some (module_value «module».now) }
+    requires there { slice_get (soc_value from.now.soc.now).modules place
+        ≡ Some (module_value «module».now) }
     requires of_module { (i : ℕ) × (slice_get «module».now.tests.items i ≡ Some test.now) }
     requires live { 1 ≤ test.now.patterns }
-    requires wrappers { AreModeWrappers (plan_value from.now.plan.now) (module_value «module».now) wrappers.now }
-    requires called { slice_get (placed_tests (soc_value from.now.soc.now) (plan_value from.now.plan.now)) at
-        ≡ Some (placed_of (planned_test (plan_value from.now.plan.now) place (module_value «module».now) test.now)) }
-    ensures { result ≡ placed_of (planned_test (plan_value from.now.plan.now) place (module_value «module».now) test.now) }
+    requires wrappers { AreModeWrappers (plan_value from.now.plan.now) (module_value «module».now)
+        wrappers.now }
+    requires called { slice_get
+        (placed_tests (soc_value from.now.soc.now) (plan_value from.now.plan.now)) at
+        ≡ Some (placed_of (planned_test (plan_value from.now.plan.now) place
+        (module_value «module».now) test.now)) }
+    ensures { result
+        ≡ placed_of (planned_test (plan_value from.now.plan.now) place (module_value «module».now)
+        test.now) }
 {
     let id = TestId {
         module: module.number,
@@ -139,15 +149,23 @@ fn fill_module(
     done: usize,
 ) -> usize
     requires placing { IsPlacing from.now }
-    requires there { slice_get (soc_value from.now.soc.now).modules place ≡ Some (module_value «module».now) }
-    requires wrappers { AreModeWrappers (plan_value from.now.plan.now) (module_value «module».now) wrappers.now }
-    requires room { done + length (placed_in (plan_value from.now.plan.now) place (module_value «module».now) «module».now.tests.items)
-        ≤ length placed.old }
+    requires there { slice_get (soc_value from.now.soc.now).modules place
+        ≡ Some (module_value «module».now) }
+    requires wrappers { AreModeWrappers (plan_value from.now.plan.now) (module_value «module».now)
+        wrappers.now }
+    requires room { done
+        + length (placed_in (plan_value from.now.plan.now) place (module_value «module».now)
+        «module».now.tests.items) ≤ length placed.old }
     requires first { (k : ℕ) (t : PlacedTest) →
-        slice_get (placed_in (plan_value from.now.plan.now) place (module_value «module».now) «module».now.tests.items) k ≡ Some t →
-        slice_get (placed_tests (soc_value from.now.soc.now) (plan_value from.now.plan.now)) (done + k) ≡ Some t }
-    ensures filled { take result placed.new ≡ take done placed.old
-        ++ placed_in (plan_value from.now.plan.now) place (module_value «module».now) «module».now.tests.items }
+        slice_get
+        (placed_in (plan_value from.now.plan.now) place (module_value «module».now)
+        «module».now.tests.items) k ≡ Some t →
+        slice_get (placed_tests (soc_value from.now.soc.now) (plan_value from.now.plan.now))
+        (done + k) ≡ Some t }
+    ensures filled { take result placed.new
+        ≡ take done placed.old
+        ++ placed_in (plan_value from.now.plan.now) place (module_value «module».now)
+        «module».now.tests.items }
     ensures count { result ≡ done + length (placed_in (plan_value from.now.plan.now) place
         (module_value «module».now) «module».now.tests.items) }
 {
@@ -165,9 +183,12 @@ fn fill_module(
 /// Writes all live tests, where these are the wrappers of all modules. A test's start stands at the test's place, so none is looked for.
 pub(crate) fn fill_tests(from: &PlanLookups<'_>, walked: &[ModeWrappers], placed: &mut [PlacedTest])
     requires placing { IsPlacing from.now }
-    requires walked { AreWalked (soc_value from.now.soc.now) (plan_value from.now.plan.now) walked.now }
-    requires room { length placed.old ≡ length (placed_tests (soc_value from.now.soc.now) (plan_value from.now.plan.now)) }
-    ensures { placed.new ≡ placed_tests (soc_value from.now.soc.now) (plan_value from.now.plan.now) }
+    requires walked { AreWalked (soc_value from.now.soc.now) (plan_value from.now.plan.now)
+        walked.now }
+    requires room { length placed.old
+        ≡ length (placed_tests (soc_value from.now.soc.now) (plan_value from.now.plan.now)) }
+    ensures { placed.new
+        ≡ placed_tests (soc_value from.now.soc.now) (plan_value from.now.plan.now) }
 {
     let mut next = 0;
     for place in 0..module_count(from.soc) {

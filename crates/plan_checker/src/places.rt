@@ -35,9 +35,12 @@ fn list_bus(soc: &Soc, listed: &[u64], bus: usize, count: usize, marks: &mut [us
     requires known { EachOf (Contains (numbers (soc_value soc.now))) listed.now }
     requires within { bus < count }
     requires marks { AreMarks (numbers (soc_value soc.now)) count marks.old }
-    ensures new { IfNone result (Each (IsUnlisted (numbers (soc_value soc.now)) count marks.old) listed.now) }
-    ensures first { IfSome result (λ m. (n : ℕ) × IsFirstBreach (IsUnlisted (numbers (soc_value soc.now)) count marks.old) listed.now n m) }
-    ensures marked { IfNone result (AreMarked (numbers (soc_value soc.now)) marks.old bus listed.now marks.new) }
+    ensures new { IfNone result
+        (Each (IsUnlisted (numbers (soc_value soc.now)) count marks.old) listed.now) }
+    ensures first { IfSome result (λ m. (n : ℕ)
+        × IsFirstBreach (IsUnlisted (numbers (soc_value soc.now)) count marks.old) listed.now n m) }
+    ensures marked { IfNone result
+        (AreMarked (numbers (soc_value soc.now)) marks.old bus listed.now marks.new) }
 {
     for number in listed {
         let place = known_place(soc, *number);
@@ -61,12 +64,15 @@ pub(crate) fn clear_marks(marks: &mut [usize], count: usize)
 /// Writes the bus of each module. The first module that is listed a second time.
 fn listed_twice(soc: &Soc, buses: &[Bus], marks: &mut [usize]) -> Option<u64>
     requires sound { IsSoundChip (soc_value soc.now) }
-    requires known { EachOf (Contains (numbers (soc_value soc.now))) (flat_map (λ (b : BusValue). b.modules) (map bus_value buses.now)) }
+    requires known { EachOf (Contains (numbers (soc_value soc.now)))
+        (flat_map (λ (b : BusValue). b.modules) (map bus_value buses.now)) }
     requires room { length marks.old ≡ length (numbers (soc_value soc.now)) }
-    ensures new { IfNone result (Each IsNew (flat_map (λ (b : BusValue). b.modules) (map bus_value buses.now))) }
+    ensures new { IfNone result
+        (Each IsNew (flat_map (λ (b : BusValue). b.modules) (map bus_value buses.now))) }
     ensures first { IfSome result (λ m. (n : ℕ) × IsFirstBreach IsNew
         (flat_map (λ (b : BusValue). b.modules) (map bus_value buses.now)) n m) }
-    ensures marked { IfNone result (AreBusesBy (numbers (soc_value soc.now)) (map bus_value buses.now) marks.new) }
+    ensures marked { IfNone result
+        (AreBusesBy (numbers (soc_value soc.now)) (map bus_value buses.now) marks.new) }
 {
     let count = buses.len();
     clear_marks(marks, count);
@@ -82,8 +88,8 @@ fn listed_twice(soc: &Soc, buses: &[Bus], marks: &mut [usize]) -> Option<u64>
 /// The first module with a test over the wires that is on no bus.
 fn unplaced(soc: &Soc, marks: &[usize], count: usize) -> Option<u64>
     requires { length marks.now ≡ length (soc_value soc.now).modules }
-    ensures { (plan : PlanValue) → AreBusesBy (numbers (soc_value soc.now)) plan.buses marks.now → count ≡ length plan.buses →
-        IsFirstUnplaced (soc_value soc.now) plan result }
+    ensures { (plan : PlanValue) → AreBusesBy (numbers (soc_value soc.now)) plan.buses marks.now →
+        count ≡ length plan.buses → IsFirstUnplaced (soc_value soc.now) plan result }
 {
     for (place, bus) in marks.iter().enumerate() {
         if *bus < count {
@@ -102,8 +108,10 @@ pub(crate) fn check_places(soc: &Soc, plan: &Plan, marks: &mut [usize]) -> Optio
     requires sound { IsSoundChip (soc_value soc.now) }
     requires known { Each (IsKnown (soc_value soc.now)) (named (plan_value plan.now)) }
     requires room { length marks.old ≡ length (soc_value soc.now).modules }
-    ensures stage { (limits : LimitsValue) → IsStage (soc_value soc.now) limits (plan_value plan.now) Places result }
-    ensures marked { IfNone result (AreBusesBy (numbers (soc_value soc.now)) (plan_value plan.now).buses marks.new) }
+    ensures stage { (limits : LimitsValue) →
+        IsStage (soc_value soc.now) limits (plan_value plan.now) Places result }
+    ensures marked { IfNone result
+        (AreBusesBy (numbers (soc_value soc.now)) (plan_value plan.now).buses marks.new) }
 {
     match listed_twice(soc, &plan.buses, marks) {
         Some(module) => Some(PlanFault::ModulePlace { module }),

@@ -107,7 +107,8 @@ fn put_test(load: &ProfiledTests<'_>, place: usize, events: &mut Vec<Event>)
 fn fill_events(load: &ProfiledTests<'_>, events: &mut Vec<Event>)
     requires load { IsSoundLoad load.now }
     requires space { length load.now.placed.now * EVENTS_EACH ≤ vec_capacity events.old }
-    ensures filled { events.new.items ≡ all_events (limits_value load.now.limits.now) load.now.placed.now }
+    ensures filled { events.new.items
+        ≡ all_events (limits_value load.now.limits.now) load.now.placed.now }
     ensures room { vec_capacity events.old ≤ vec_capacity events.new }
 {
     events.clear();
@@ -120,7 +121,8 @@ fn fill_events(load: &ProfiledTests<'_>, events: &mut Vec<Event>)
 fn first_over(load: &ProfiledTests<'_>, events: &mut Vec<Event>) -> Option<Excess>
     requires load { IsSoundLoad load.now }
     requires space { length load.now.placed.now * EVENTS_EACH ≤ vec_capacity events.old }
-    ensures first { IsFirstOver (drawn_by (limits_value load.now.limits.now) load.now.placed.now) load.now.most result }
+    ensures first { IsFirstOver (drawn_by (limits_value load.now.limits.now) load.now.placed.now)
+        load.now.most result }
     ensures room { vec_capacity events.old ≤ vec_capacity events.new }
 {
     fill_events(load, events);
@@ -135,7 +137,8 @@ pub(crate) fn check_power(
     profiles: &[usize],
     events: &mut Vec<Event>,
 ) -> Option<PlanFault>
-    requires load { (most : ℕ) → limits.now.power ≡ Some most → IsLoad (limits_value limits.now) placed.now profiles.now most }
+    requires load { (most : ℕ) → limits.now.power ≡ Some most →
+        IsLoad (limits_value limits.now) placed.now profiles.now most }
     requires space { length placed.now * EVENTS_EACH ≤ vec_capacity events.old }
     ensures stage { (soc : SocValue) (plan : PlanValue) → placed.now ≡ placed_tests soc plan →
         IsStage soc (limits_value limits.now) plan Power result }

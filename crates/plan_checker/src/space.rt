@@ -168,7 +168,8 @@ pub(crate) fn plan_rooms(
     sizes: &CheckSizes,
     plan: &Plan,
 ) -> Result<PlanRooms, NoMemory>
-    ensures { IfOk result (λ room. HasRuleRoom sizes.now.modules sizes.now.pairs sizes.now.tests room.rules) }
+    ensures { IfOk result
+        (λ room. HasRuleRoom sizes.now.modules sizes.now.pairs sizes.now.tests room.rules) }
 {
     let bound = BoundScratch::new(alloc, &plan.bound)?;
     let Ok(rules) = rule_rooms(alloc, sizes) else {

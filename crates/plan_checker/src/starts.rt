@@ -63,8 +63,10 @@ pub(crate) fn check_starts(
     requires early { StartEarly plan.now.starts.items }
     requires named { ids_of names.now ≡ live_ids (soc_value soc.now) }
     requires room { length room.old ≡ length (live_ids (soc_value soc.now)) }
-    ensures stage { (limits : LimitsValue) → IsStage (soc_value soc.now) limits (plan_value plan.now) Starts result }
-    ensures filled { IfNone result (AreStarts (live_ids (soc_value soc.now)) plan.now.starts.items room.new) }
+    ensures stage { (limits : LimitsValue) →
+        IsStage (soc_value soc.now) limits (plan_value plan.now) Starts result }
+    ensures filled { IfNone result
+        (AreStarts (live_ids (soc_value soc.now)) plan.now.starts.items room.new) }
 {
     room.fill(NO_START);
     match take_starts(names, &plan.starts, room) {

@@ -52,8 +52,10 @@ use soc_model::Soc;
 fn check_buses(soc: &Soc, limits: &Limits, plan: &Plan, marks: &mut [usize]) -> Option<PlanFault>
     requires sound { IsSoundChip (soc_value soc.now) }
     requires room { length marks.old ≡ length (soc_value soc.now).modules }
-    ensures verdict { IsVerdict (soc_value soc.now) (limits_value limits.now) (plan_value plan.now) 4 result }
-    ensures marked { IfNone result (AreBusesBy (numbers (soc_value soc.now)) (plan_value plan.now).buses marks.new) }
+    ensures verdict { IsVerdict (soc_value soc.now) (limits_value limits.now) (plan_value plan.now)
+        4 result }
+    ensures marked { IfNone result
+        (AreBusesBy (numbers (soc_value soc.now)) (plan_value plan.now).buses marks.new) }
 {
     match check_widths(limits.wires, &plan.buses) {
         Some(fault) => Some(fault),
@@ -72,8 +74,9 @@ fn check_meetings(
     ends: &mut [u64],
 ) -> Option<PlanFault>
     requires { IsLayout parents.now placed.now begins.now (length ends.old) }
-    ensures { (soc : SocValue) (limits : LimitsValue) (plan : PlanValue) → placed.now ≡ placed_tests soc plan → AreParents soc parents.now →
-        KeptTo soc limits plan 7 → IsVerdict soc limits plan 10 result }
+    ensures { (soc : SocValue) (limits : LimitsValue) (plan : PlanValue) →
+        placed.now ≡ placed_tests soc plan → AreParents soc parents.now → KeptTo soc limits plan 7 →
+        IsVerdict soc limits plan 10 result }
 {
     match check_apart(parents, Apart::OneBus, placed, begins, ends) {
         Some(fault) => Some(fault),
@@ -96,16 +99,23 @@ fn check_tests(
 ) -> Option<PlanFault>
     requires sound { IsSoundChip (soc_value soc.now) }
     requires kept { KeptTo (soc_value soc.now) (limits_value limits.now) (plan_value plan.now) 4 }
-    requires known { EachOf (Contains (numbers (soc_value soc.now))) (map (λ (w : Wrapper). w.«module») plan.now.wrappers.items) }
-    requires marked { AreBusesBy (numbers (soc_value soc.now)) (plan_value plan.now).buses marks.now }
-    requires pairs_fit { length (used_pairs (soc_value soc.now)) ≤ length (keys wrappers.old) + spare wrappers.old }
+    requires known { EachOf (Contains (numbers (soc_value soc.now)))
+        (map (λ (w : Wrapper). w.«module») plan.now.wrappers.items) }
+    requires marked { AreBusesBy (numbers (soc_value soc.now)) (plan_value plan.now).buses
+        marks.now }
+    requires pairs_fit { length (used_pairs (soc_value soc.now))
+        ≤ length (keys wrappers.old) + spare wrappers.old }
     requires early { StartEarly plan.now.starts.items }
     requires named { FindsTests limits.now.before.items (live_ids (soc_value soc.now)) names.now }
     requires starts_fit { length starts.old ≡ length (live_ids (soc_value soc.now)) }
-    ensures verdict { IsVerdict (soc_value soc.now) (limits_value limits.now) (plan_value plan.now) 7 result }
-    ensures paired { IfNone result (keys wrappers.new ≡ map pair_of (plan_value plan.now).wrappers) }
-    ensures started { IfNone result (AreStarts (live_ids (soc_value soc.now)) plan.now.starts.items starts.new) }
-    ensures pairs_left { length (keys wrappers.old) + spare wrappers.old ≤ length (keys wrappers.new) + spare wrappers.new }
+    ensures verdict { IsVerdict (soc_value soc.now) (limits_value limits.now) (plan_value plan.now)
+        7 result }
+    ensures paired { IfNone result
+        (keys wrappers.new ≡ map pair_of (plan_value plan.now).wrappers) }
+    ensures started { IfNone result
+        (AreStarts (live_ids (soc_value soc.now)) plan.now.starts.items starts.new) }
+    ensures pairs_left { length (keys wrappers.old) + spare wrappers.old
+        ≤ length (keys wrappers.new) + spare wrappers.new }
 {
     match check_wrappers(soc, plan, marks, wrappers) {
         Some(fault) => Some(fault),
@@ -127,7 +137,8 @@ fn check_ends(
 ) -> Option<PlanFault>
     requires named { FindsTests limits.now.before.items (names_of placed.now) names.now }
     requires apart { AllDiffer (names_of placed.now) }
-    requires load { (most : ℕ) → limits.now.power ≡ Some most → IsLoad (limits_value limits.now) placed.now profiles.now most }
+    requires load { (most : ℕ) → limits.now.power ≡ Some most →
+        IsLoad (limits_value limits.now) placed.now profiles.now most }
     requires space { length placed.now * EVENTS_EACH ≤ vec_capacity events.old }
     ensures verdict { (soc : SocValue) → placed.now ≡ placed_tests soc (plan_value plan.now) →
         KeptTo soc (limits_value limits.now) (plan_value plan.now) 10 →
@@ -151,19 +162,29 @@ fn check_placed(
     rooms: &mut PlacedRooms,
 ) -> Option<PlanFault>
     requires placing { IsPlacing from.now }
-    requires kept { KeptTo (soc_value from.now.soc.now) (limits_value limits.now) (plan_value from.now.plan.now) 7 }
+    requires kept { KeptTo (soc_value from.now.soc.now) (limits_value limits.now)
+        (plan_value from.now.plan.now) 7 }
     requires limits { IsSoundLimits (soc_value from.now.soc.now) (limits_value limits.now) }
-    requires named { FindsTests limits.now.before.items (live_ids (soc_value from.now.soc.now)) names.now }
-    requires parents_fit { length rooms.old.parents.items ≡ length (soc_value from.now.soc.now).modules }
-    requires wrappers_fit { length rooms.old.wrappers.items ≡ length (soc_value from.now.soc.now).modules }
-    requires tests_fit { length rooms.old.tests.items ≡ length (placed_tests (soc_value from.now.soc.now) (plan_value from.now.plan.now)) }
+    requires named { FindsTests limits.now.before.items (live_ids (soc_value from.now.soc.now))
+        names.now }
+    requires parents_fit { length rooms.old.parents.items
+        ≡ length (soc_value from.now.soc.now).modules }
+    requires wrappers_fit { length rooms.old.wrappers.items
+        ≡ length (soc_value from.now.soc.now).modules }
+    requires tests_fit { length rooms.old.tests.items
+        ≡ length (placed_tests (soc_value from.now.soc.now) (plan_value from.now.plan.now)) }
     requires begins_fit { length rooms.old.begins.items ≡ length rooms.old.tests.items }
-    requires ends_fit { length rooms.old.ends.items ≡ length rooms.old.parents.items + WIRES_MOST + 1 }
+    requires ends_fit { length rooms.old.ends.items
+        ≡ length rooms.old.parents.items + WIRES_MOST + 1 }
     requires profiles_fit { length rooms.old.profiles.items ≡ length rooms.old.tests.items }
-    requires events_fit { length rooms.old.tests.items * EVENTS_EACH ≤ vec_capacity rooms.old.events }
-    ensures verdict { IsVerdict (soc_value from.now.soc.now) (limits_value limits.now) (plan_value from.now.plan.now) 13 result }
-    ensures tests { rooms.new.tests.items ≡ placed_tests (soc_value from.now.soc.now) (plan_value from.now.plan.now) }
-    ensures walked { AreWalked (soc_value from.now.soc.now) (plan_value from.now.plan.now) rooms.new.wrappers.items }
+    requires events_fit { length rooms.old.tests.items * EVENTS_EACH
+        ≤ vec_capacity rooms.old.events }
+    ensures verdict { IsVerdict (soc_value from.now.soc.now) (limits_value limits.now)
+        (plan_value from.now.plan.now) 13 result }
+    ensures tests { rooms.new.tests.items
+        ≡ placed_tests (soc_value from.now.soc.now) (plan_value from.now.plan.now) }
+    ensures walked { AreWalked (soc_value from.now.soc.now) (plan_value from.now.plan.now)
+        rooms.new.wrappers.items }
     ensures long { AreAsLong rooms.old rooms.new }
     ensures events_left { vec_capacity rooms.old.events ≤ vec_capacity rooms.new.events }
 {
@@ -203,23 +224,36 @@ pub(crate) fn check_rules(
     requires early { StartEarly plan.now.starts.items }
     requires named { FindsTests limits.now.before.items (live_ids (soc_value soc.now)) names.now }
     requires marks_fit { length rooms.old.marks.items ≡ length (soc_value soc.now).modules }
-    requires parents_fit { length rooms.old.placed.parents.items ≡ length (soc_value soc.now).modules }
-    requires wrappers_fit { length rooms.old.placed.wrappers.items ≡ length (soc_value soc.now).modules }
-    requires pairs_fit { length (used_pairs (soc_value soc.now)) ≤ length (keys rooms.old.wrappers) + spare rooms.old.wrappers }
+    requires parents_fit { length rooms.old.placed.parents.items
+        ≡ length (soc_value soc.now).modules }
+    requires wrappers_fit { length rooms.old.placed.wrappers.items
+        ≡ length (soc_value soc.now).modules }
+    requires pairs_fit { length (used_pairs (soc_value soc.now))
+        ≤ length (keys rooms.old.wrappers) + spare rooms.old.wrappers }
     requires starts_fit { length rooms.old.starts.items ≡ length (live_ids (soc_value soc.now)) }
-    requires tests_fit { length rooms.old.placed.tests.items ≡ length (placed_tests (soc_value soc.now) (plan_value plan.now)) }
-    requires begins_fit { length rooms.old.placed.begins.items ≡ length rooms.old.placed.tests.items }
-    requires ends_fit { length rooms.old.placed.ends.items ≡ length rooms.old.marks.items + WIRES_MOST + 1 }
-    requires profiles_fit { length rooms.old.placed.profiles.items ≡ length rooms.old.placed.tests.items }
-    requires events_fit { length rooms.old.placed.tests.items * EVENTS_EACH ≤ vec_capacity rooms.old.placed.events }
-    ensures good { IfNone result (IsGood (soc_value soc.now) (limits_value limits.now) (plan_value plan.now)) }
-    ensures fault { IfSome result (λ f. IsFault (soc_value soc.now) (limits_value limits.now) (plan_value plan.now) (fault_value f)) }
-    ensures tests { IfNone result (rooms.new.placed.tests.items ≡ placed_tests (soc_value soc.now) (plan_value plan.now)) }
-    ensures walked { IfNone result (AreWalked (soc_value soc.now) (plan_value plan.now) rooms.new.placed.wrappers.items) }
+    requires tests_fit { length rooms.old.placed.tests.items
+        ≡ length (placed_tests (soc_value soc.now) (plan_value plan.now)) }
+    requires begins_fit { length rooms.old.placed.begins.items
+        ≡ length rooms.old.placed.tests.items }
+    requires ends_fit { length rooms.old.placed.ends.items
+        ≡ length rooms.old.marks.items + WIRES_MOST + 1 }
+    requires profiles_fit { length rooms.old.placed.profiles.items
+        ≡ length rooms.old.placed.tests.items }
+    requires events_fit { length rooms.old.placed.tests.items * EVENTS_EACH
+        ≤ vec_capacity rooms.old.placed.events }
+    ensures good { IfNone result
+        (IsGood (soc_value soc.now) (limits_value limits.now) (plan_value plan.now)) }
+    ensures fault { IfSome result (λ f. IsFault (soc_value soc.now) (limits_value limits.now)
+        (plan_value plan.now) (fault_value f)) }
+    ensures tests { IfNone result
+        (rooms.new.placed.tests.items ≡ placed_tests (soc_value soc.now) (plan_value plan.now)) }
+    ensures walked { IfNone result
+        (AreWalked (soc_value soc.now) (plan_value plan.now) rooms.new.placed.wrappers.items) }
     ensures pairs_left { length (keys rooms.old.wrappers) + spare rooms.old.wrappers
         ≤ length (keys rooms.new.wrappers) + spare rooms.new.wrappers }
     ensures starts_long { length rooms.new.starts.items ≡ length rooms.old.starts.items }
-    ensures events_left { length rooms.old.placed.tests.items * EVENTS_EACH ≤ vec_capacity rooms.new.placed.events }
+    ensures events_left { length rooms.old.placed.tests.items * EVENTS_EACH
+        ≤ vec_capacity rooms.new.placed.events }
     ensures marks_long { length rooms.new.marks.items ≡ length rooms.old.marks.items }
     ensures long { AreAsLong rooms.old.placed rooms.new.placed }
 {

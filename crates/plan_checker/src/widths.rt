@@ -12,7 +12,8 @@ use plan_model::Bus;
 
 /// The widths of the buses against the wires of the limits.
 pub(crate) fn check_widths(wires: u64, buses: &[Bus]) -> Option<PlanFault>
-    ensures { (soc : SocValue) (limits : LimitsValue) (plan : PlanValue) → map bus_value buses.now ≡ plan.buses → wires ≡ limits.wires →
+    ensures { (soc : SocValue) (limits : LimitsValue) (plan : PlanValue) →
+        map bus_value buses.now ≡ plan.buses → wires ≡ limits.wires →
         IsStage soc limits plan Widths result }
 {
     let mut left = wires;

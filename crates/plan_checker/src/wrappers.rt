@@ -54,7 +54,8 @@ fn is_used(soc: &Soc, number: u64, scan: bool) -> bool
 
 /// The wires of the bus at a place, 0 where there is none.
 fn width_at(buses: &[Bus], place: usize) -> u64
-    ensures { result ≡ slice_index (map (λ (b : BusValue). b.width) (map bus_value buses.now)) place }
+    ensures { result
+        ≡ slice_index (map (λ (b : BusValue). b.width) (map bus_value buses.now)) place }
 {
     if place < buses.len() {
         buses[place].width
@@ -94,14 +95,18 @@ fn take_wrappers(
     room: &mut IndexSet<(u64, bool)>,
 ) -> Option<(u64, bool)>
     requires sound { IsSoundChip (soc_value soc.now) }
-    requires known { EachOf (Contains (numbers (soc_value soc.now))) (map (λ (w : Wrapper). w.«module») wrappers.now) }
-    requires marked { AreBusesBy (numbers (soc_value soc.now)) (plan_value plan.now).buses marks.now }
+    requires known { EachOf (Contains (numbers (soc_value soc.now)))
+        (map (λ (w : Wrapper). w.«module») wrappers.now) }
+    requires marked { AreBusesBy (numbers (soc_value soc.now)) (plan_value plan.now).buses
+        marks.now }
     requires empty { keys room.old ≡ [] }
     requires space { length (used_pairs (soc_value soc.now)) ≤ spare room.old }
-    ensures kept { IfNone result (Each (IsFitting (soc_value soc.now) (plan_value plan.now)) (map wrapper_value wrappers.now)) }
+    ensures kept { IfNone result (Each (IsFitting (soc_value soc.now) (plan_value plan.now))
+        (map wrapper_value wrappers.now)) }
     ensures filled { IfNone result (keys room.new ≡ map pair_of (map wrapper_value wrappers.now)) }
     ensures first { IfSome result (λ p. (n : ℕ) × (w : WrapperValue)
-        × IsFirstBreach (IsFitting (soc_value soc.now) (plan_value plan.now)) (map wrapper_value wrappers.now) n w × (p ≡ pair_of w)) }
+        × IsFirstBreach (IsFitting (soc_value soc.now) (plan_value plan.now))
+        (map wrapper_value wrappers.now) n w × (p ≡ pair_of w)) }
     ensures space_left { spare room.old ≤ length (keys room.new) + spare room.new }
 {
     for wrapper in wrappers {
@@ -121,9 +126,11 @@ fn take_wrappers(
 
 /// Whether the module uses the mode and the room has no wrapper for it.
 fn lacks_wrapper(module: &Module, scan: bool, room: &IndexSet<(u64, bool)>) -> bool
-    ensures broken { IsTrue result → Breaks (Contains (keys room.now)) (mode_pair scan (module_value «module».now))
+    ensures broken { IsTrue result →
+        Breaks (Contains (keys room.now)) (mode_pair scan (module_value «module».now))
         («module».now.number, scan) }
-    ensures kept { result ≡ false → EachOf (Contains (keys room.now)) (mode_pair scan (module_value «module».now)) }
+    ensures kept { result ≡ false →
+        EachOf (Contains (keys room.now)) (mode_pair scan (module_value «module».now)) }
 {
     if !uses_mode(module, scan) {
         return false;
@@ -133,10 +140,11 @@ fn lacks_wrapper(module: &Module, scan: bool, room: &IndexSet<(u64, bool)>) -> b
 
 /// The first pair of the module that has no wrapper in the room, scan before terminals.
 fn unwrapped_in(module: &Module, room: &IndexSet<(u64, bool)>) -> Option<(u64, bool)>
-    ensures all { IfNone result (EachOf (Contains (keys room.now))
-        (mode_pair true (module_value «module».now) ++ mode_pair false (module_value «module».now))) }
+    ensures all { IfNone result (EachOf (Contains (keys room.now)) (mode_pair true
+        (module_value «module».now) ++ mode_pair false (module_value «module».now))) }
     ensures first { IfSome result (λ p. Breaks (Contains (keys room.now))
-        (mode_pair true (module_value «module».now) ++ mode_pair false (module_value «module».now)) p) }
+        (mode_pair true (module_value «module».now) ++ mode_pair false (module_value «module».now))
+        p) }
 {
     if lacks_wrapper(module, true, room) {
         return Some((module.number, true));
@@ -149,8 +157,10 @@ fn unwrapped_in(module: &Module, room: &IndexSet<(u64, bool)>) -> Option<(u64, b
 
 /// The first pair of the chip that has no wrapper in the room.
 fn unwrapped(soc: &Soc, room: &IndexSet<(u64, bool)>) -> Option<(u64, bool)>
-    ensures all { IfNone result (EachOf (Contains (keys room.now)) (used_pairs (soc_value soc.now))) }
-    ensures first { IfSome result (λ p. Breaks (Contains (keys room.now)) (used_pairs (soc_value soc.now)) p) }
+    ensures all { IfNone result
+        (EachOf (Contains (keys room.now)) (used_pairs (soc_value soc.now))) }
+    ensures first { IfSome result
+        (λ p. Breaks (Contains (keys room.now)) (used_pairs (soc_value soc.now)) p) }
 {
     for place in 0..module_count(soc) {
         let missing = unwrapped_in(module_at(soc, place), room);
@@ -169,12 +179,17 @@ pub(crate) fn check_wrappers(
     room: &mut IndexSet<(u64, bool)>,
 ) -> Option<PlanFault>
     requires sound { IsSoundChip (soc_value soc.now) }
-    requires known { EachOf (Contains (numbers (soc_value soc.now))) (map (λ (w : Wrapper). w.«module») plan.now.wrappers.items) }
-    requires marked { AreBusesBy (numbers (soc_value soc.now)) (plan_value plan.now).buses marks.now }
-    requires space { length (used_pairs (soc_value soc.now)) ≤ length (keys room.old) + spare room.old }
-    ensures stage { (limits : LimitsValue) → IsStage (soc_value soc.now) limits (plan_value plan.now) Wrappers result }
+    requires known { EachOf (Contains (numbers (soc_value soc.now)))
+        (map (λ (w : Wrapper). w.«module») plan.now.wrappers.items) }
+    requires marked { AreBusesBy (numbers (soc_value soc.now)) (plan_value plan.now).buses
+        marks.now }
+    requires space { length (used_pairs (soc_value soc.now))
+        ≤ length (keys room.old) + spare room.old }
+    ensures stage { (limits : LimitsValue) →
+        IsStage (soc_value soc.now) limits (plan_value plan.now) Wrappers result }
     ensures filled { IfNone result (keys room.new ≡ map pair_of (plan_value plan.now).wrappers) }
-    ensures space_left { length (keys room.old) + spare room.old ≤ length (keys room.new) + spare room.new }
+    ensures space_left { length (keys room.old) + spare room.old
+        ≤ length (keys room.new) + spare room.new }
 {
     room.clear();
     match take_wrappers(soc, plan, &plan.wrappers, marks, room) {

@@ -148,7 +148,8 @@ fn plan_of(
 /// Whether a plan is accepted.
 fn is_accepted(alloc: Global, problem: &Problem<'_>, plan: &Plan) -> Result<bool, NoMemory>
     requires { AreSmallStarts (plan_value plan.now).starts }
-    ensures { IfOk result (λ good. good ≡ true → IsGood problem.now.soc problem.now.limits (plan_value plan.now)) }
+    ensures { IfOk result
+        (λ good. good ≡ true → IsGood problem.now.soc problem.now.limits (plan_value plan.now)) }
 {
     Ok(judge_plan(alloc, problem, plan)?.is_ok())
 }
@@ -164,8 +165,10 @@ pub(crate) fn better_plan(
     requires chip { packed.now.soc ≡ problem.now.soc }
     requires wires { packed.now.wires ≡ problem.now.limits.wires }
     requires lent { IsLent found.now }
-    ensures good { IfOk result (λ plan. IfSome plan (λ p. IsGood problem.now.soc problem.now.limits (plan_value p))) }
-    ensures small_starts { IfOk result (λ plan. IfSome plan (λ p. AreSmallStarts (plan_value p).starts)) }
+    ensures good { IfOk result
+        (λ plan. IfSome plan (λ p. IsGood problem.now.soc problem.now.limits (plan_value p))) }
+    ensures small_starts { IfOk result
+        (λ plan. IfSome plan (λ p. AreSmallStarts (plan_value p).starts)) }
     ensures fewer { IfOk result (λ plan. IfSome plan (λ p. p.cycles < cycles)) }
 {
     let Some(plan) = plan_of(alloc, problem.soc, packed, problem.limits.wires, found)? else {

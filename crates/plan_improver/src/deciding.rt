@@ -68,10 +68,11 @@ fn decide_improve<H: Shelf, T: Sink>(
     ensures held_stays { H.held shelf.new ≡ H.held shelf.old }
     ensures faults_never_fall { H.faults shelf.old ≤ H.faults shelf.new }
     ensures progress_faults_never_fall { T.faults progress.old ≤ T.faults progress.new }
-    ensures follows { Follows (procedure_of (Improve soc.now limits.now plan.now by.tries by.seed)) (H.held shelf.old) (H.faults shelf.old)
-        (H.faults shelf.new) result }
-    ensures by_loads { LoadsGive H.is_load (procedure_of (Improve soc.now limits.now plan.now by.tries by.seed))
-        shelf.old result shelf.new }
+    ensures follows { Follows (procedure_of (Improve soc.now limits.now plan.now by.tries by.seed))
+        (H.held shelf.old) (H.faults shelf.old) (H.faults shelf.new) result }
+    ensures by_loads { LoadsGive H.is_load
+        (procedure_of (Improve soc.now limits.now plan.now by.tries by.seed)) shelf.old result
+        shelf.new }
     ensures quiet { by.tries < REPORTED_FROM → progress.new ≡ progress.old }
     ensures reported { MayReport by.tries (T.written progress.old) (T.written progress.new) }
 {
@@ -94,14 +95,18 @@ pub(crate) fn decide<H: Shelf, T: Sink>(
     ensures held_stays { H.held shelf.new ≡ H.held shelf.old }
     ensures faults_never_fall { H.faults shelf.old ≤ H.faults shelf.new }
     ensures progress_faults_never_fall { T.faults progress.old ≤ T.faults progress.new }
-    ensures decides { Decides (asked procedure_of (asked_command (map string_bytes words.now))) (H.held shelf.old) (H.faults shelf.old)
-        (H.faults shelf.new) result }
+    ensures decides { Decides (asked procedure_of (asked_command (map string_bytes words.now)))
+        (H.held shelf.old) (H.faults shelf.old) (H.faults shelf.new) result }
     ensures by_loads { LoadsGive H.is_load
         (asked procedure_of (asked_command (map string_bytes words.now)))
         shelf.old result shelf.new }
-    ensures untouched { (IsCommand (asked procedure_of (asked_command (map string_bytes words.now))) → ⊥) → shelf.new ≡ shelf.old }
-    ensures quiet { IsQuiet (asked_command (map string_bytes words.now)) → progress.new ≡ progress.old }
-    ensures reported { MayReportOf (asked_command (map string_bytes words.now)) (T.written progress.old) (T.written progress.new) }
+    ensures untouched { (IsCommand
+        (asked procedure_of (asked_command (map string_bytes words.now))) → ⊥) →
+        shelf.new ≡ shelf.old }
+    ensures quiet { IsQuiet (asked_command (map string_bytes words.now)) →
+        progress.new ≡ progress.old }
+    ensures reported { MayReportOf (asked_command (map string_bytes words.now))
+        (T.written progress.old) (T.written progress.new) }
 {
     match command_of(words) {
         Some(

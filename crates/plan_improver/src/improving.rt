@@ -85,7 +85,8 @@ fn with_greater_bound(
 fn job_of_plan(alloc: Global, problem: &Problem<'_>, given: &Plan) -> Result<Job, NoMemory>
     requires given { IsGood problem.now.soc problem.now.limits (plan_value given.now) }
     ensures sound { IfOk result (λ job. IsSoundJob (job_value job)) }
-    ensures tests { IfOk result (λ job. length (job_value job).tests ≡ length (live_tests problem.now.soc)) }
+    ensures tests { IfOk result
+        (λ job. length (job_value job).tests ≡ length (live_tests problem.now.soc)) }
 {
     let job = job_with(alloc, problem, &given.buses, &given.wrappers)?;
     Ok(job)
@@ -138,7 +139,8 @@ fn searched_on<T: Sink>(
     requires basis { IsSearchBasis problem.now.soc problem.now.limits.wires basis.now }
     ensures good { IfOk result (λ plan. IfSome plan (λ p. IsGood problem.now.soc problem.now.limits
         (plan_value p))) }
-    ensures small_starts { IfOk result (λ plan. IfSome plan (λ p. AreSmallStarts (plan_value p).starts)) }
+    ensures small_starts { IfOk result
+        (λ plan. IfSome plan (λ p. AreSmallStarts (plan_value p).starts)) }
     ensures fewer { IfOk result (λ plan. IfSome plan (λ p. p.cycles < given.now.cycles)) }
     ensures faults_never_fall { T.faults progress.old ≤ T.faults progress.new }
     ensures quiet { tries < REPORTED_FROM → progress.new ≡ progress.old }
@@ -169,7 +171,8 @@ fn searched_over<T: Sink>(
     requires given { IsGood problem.now.soc problem.now.limits (plan_value given.now) }
     ensures good { IfOk result (λ plan. IfSome plan (λ p. IsGood problem.now.soc problem.now.limits
         (plan_value p))) }
-    ensures small_starts { IfOk result (λ plan. IfSome plan (λ p. AreSmallStarts (plan_value p).starts)) }
+    ensures small_starts { IfOk result
+        (λ plan. IfSome plan (λ p. AreSmallStarts (plan_value p).starts)) }
     ensures fewer { IfOk result (λ plan. IfSome plan (λ p. p.cycles < given.now.cycles)) }
     ensures faults_never_fall { T.faults progress.old ≤ T.faults progress.new }
     ensures quiet { tries < REPORTED_FROM → progress.new ≡ progress.old }
@@ -194,7 +197,8 @@ fn searched<T: Sink>(
     requires given { IsFaultless problem.now.soc problem.now.limits (plan_value given.now) }
     ensures good { IfOk result (λ plan. IfSome plan (λ p. IsGood problem.now.soc problem.now.limits
         (plan_value p))) }
-    ensures small_starts { IfOk result (λ plan. IfSome plan (λ p. AreSmallStarts (plan_value p).starts)) }
+    ensures small_starts { IfOk result
+        (λ plan. IfSome plan (λ p. AreSmallStarts (plan_value p).starts)) }
     ensures fewer { IfOk result (λ plan. IfSome plan (λ p. p.cycles < given.now.cycles)) }
     ensures faults_never_fall { T.faults progress.old ≤ T.faults progress.new }
     ensures quiet { tries < REPORTED_FROM → progress.new ≡ progress.old }

@@ -10,8 +10,9 @@ use plan_model::{certificates_are_bounds, tests_are_short};
 
 /// In a plan without a fault every number is in the range of a plan's text, where its starts are.
 pub(crate) fn faultless_plans_are_in_range()
-    ensures { (soc : SocValue) (limits : LimitsValue) → IsSoundChip soc → IsSoundLimits soc limits → (plan : PlanValue) →
-        IsFaultless soc limits plan → AreSmallStarts plan.starts → IsInRange plan }
+    ensures { (soc : SocValue) (limits : LimitsValue) → IsSoundChip soc → IsSoundLimits soc limits →
+        (plan : PlanValue) → IsFaultless soc limits plan → AreSmallStarts plan.starts →
+        IsInRange plan }
 {
     certificates_are_bounds();
     tests_are_short();

@@ -124,7 +124,9 @@ impl Phases {
     /// The capture that comes `shifts` Shifts later, after a block.
     fn capture_after(&self, block: u64, shifts: u64) -> Option<Turn>
         requires { block + 2 < 2 ^ 64 }
-        ensures { result ≡ cond (nat_lt (suc block) self.now.patterns) (Some (record { shifts = shifts; pattern = suc (suc block) })) None }
+        ensures { result
+            ≡ cond (nat_lt (suc block) self.now.patterns)
+            (Some (record { shifts = shifts; pattern = suc (suc block) })) None }
     {
         if block + 1 < self.patterns {
             Some(Turn {

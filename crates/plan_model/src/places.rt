@@ -39,7 +39,8 @@ fn wraps_mode(wrapper: &Wrapper, module: u64, scan: bool) -> bool
 
 /// The place of the first wrapper of a module in a mode. None comes exactly where there is none.
 pub fn wrapper_of(wrappers: &[Wrapper], module: u64, scan: bool) -> Option<usize>
-    ensures { result ≡ position (λ (w : Wrapper). wraps «module» scan (wrapper_value w)) wrappers.now }
+    ensures { result
+        ≡ position (λ (w : Wrapper). wraps «module» scan (wrapper_value w)) wrappers.now }
 {
     wrappers
         .iter()

@@ -43,7 +43,8 @@ fn all_outs(chains: &[ChainPlan]) -> u128
 fn mark_scan(scan: u64, base: u64, seen: &mut [bool]) -> bool
     ensures marked { IsTrue result → (k : ℕ) → k < length seen.old →
         mark_at seen.new k ≡ mark_at seen.old k + (if nat_eq scan (base + k) then 1 else 0) }
-    ensures twice { result ≡ false → (k : ℕ) × (k < length seen.old) × (scan ≡ base + k) × (mark_at seen.old k ≡ 1) }
+    ensures twice { result ≡ false →
+        (k : ℕ) × (k < length seen.old) × (scan ≡ base + k) × (mark_at seen.old k ≡ 1) }
 {
     if scan < base {
         return true;
@@ -62,8 +63,10 @@ fn mark_scan(scan: u64, base: u64, seen: &mut [bool]) -> bool
 
 /// Marks the scan chains that a chain lists; false where one is then marked twice.
 fn mark_chain(scans: &[u64], base: u64, seen: &mut [bool]) -> bool
-    ensures marked { IsTrue result → (k : ℕ) → k < length seen.old → mark_at seen.new k ≡ mark_at seen.old k + times (base + k) scans.now }
-    ensures twice { result ≡ false → (k : ℕ) × (k < length seen.old) × (2 ≤ mark_at seen.old k + times (base + k) scans.now) }
+    ensures marked { IsTrue result → (k : ℕ) → k < length seen.old →
+        mark_at seen.new k ≡ mark_at seen.old k + times (base + k) scans.now }
+    ensures twice { result ≡ false →
+        (k : ℕ) × (k < length seen.old) × (2 ≤ mark_at seen.old k + times (base + k) scans.now) }
 {
     for scan in scans {
         if !mark_scan(*scan, base, seen) {
@@ -77,7 +80,9 @@ fn mark_chain(scans: &[u64], base: u64, seen: &mut [bool]) -> bool
 fn mark_chains(chains: &[ChainPlan], base: u64, seen: &mut [bool]) -> bool
     ensures marked { IsTrue result → (k : ℕ) → k < length seen.old →
         mark_at seen.new k ≡ mark_at seen.old k + listed_times (base + k) chains.now }
-    ensures twice { result ≡ false → (k : ℕ) × (k < length seen.old) × (2 ≤ mark_at seen.old k + listed_times (base + k) chains.now) }
+    ensures twice { result ≡ false →
+        (k : ℕ) × (k < length seen.old)
+        × (2 ≤ mark_at seen.old k + listed_times (base + k) chains.now) }
 {
     for chain in chains {
         if !mark_chain(&chain.scans, base, seen) {
@@ -91,7 +96,8 @@ fn mark_chains(chains: &[ChainPlan], base: u64, seen: &mut [bool]) -> bool
 fn window(chains: &[ChainPlan], base: u64, count: usize) -> bool
     requires { count ≤ 1024 }
     ensures once { IsTrue result → (k : ℕ) → k < count → listed_times (base + k) chains.now ≡ 1 }
-    ensures other { result ≡ false → (k : ℕ) × (k < count) × (listed_times (base + k) chains.now ≢ 1) }
+    ensures other { result ≡ false →
+        (k : ℕ) × (k < count) × (listed_times (base + k) chains.now ≢ 1) }
 {
     let mut marks = [false; WINDOW];
     let seen = &mut marks[..count];
@@ -136,7 +142,8 @@ fn is_below(scans: &[u64], n: u64) -> bool
 
 /// Whether each scan chain that the chains list is below `n`.
 fn all_below(chains: &[ChainPlan], n: u64) -> bool
-    ensures { result ≡ list_all (λ (c : ChainPlan). list_all (λ x. nat_lt x n) c.scans.items) chains.now }
+    ensures { result
+        ≡ list_all (λ (c : ChainPlan). list_all (λ x. nat_lt x n) c.scans.items) chains.now }
 {
     for chain in chains {
         if !is_below(&chain.scans, n) {
@@ -155,10 +162,14 @@ fn both(a: u64, b: u64) -> u128
 
 /// Whether the chains take as many input and output cells as the module has.
 fn takes_terminals(module: &Module, chains: &[ChainPlan]) -> bool
-    ensures ins { IsTrue result → sum_by (λ (c : ChainPlan). c.ins) chains.now ≡ «module».now.inputs + «module».now.bidirs }
-    ensures outs { IsTrue result → sum_by (λ (c : ChainPlan). c.outs) chains.now ≡ «module».now.outputs + «module».now.bidirs }
-    ensures only { sum_by (λ (c : ChainPlan). c.ins) chains.now ≡ «module».now.inputs + «module».now.bidirs →
-        sum_by (λ (c : ChainPlan). c.outs) chains.now ≡ «module».now.outputs + «module».now.bidirs → IsTrue result }
+    ensures ins { IsTrue result →
+        sum_by (λ (c : ChainPlan). c.ins) chains.now ≡ «module».now.inputs + «module».now.bidirs }
+    ensures outs { IsTrue result →
+        sum_by (λ (c : ChainPlan). c.outs) chains.now ≡ «module».now.outputs + «module».now.bidirs }
+    ensures only { sum_by (λ (c : ChainPlan). c.ins) chains.now
+        ≡ «module».now.inputs + «module».now.bidirs →
+        sum_by (λ (c : ChainPlan). c.outs) chains.now ≡ «module».now.outputs + «module».now.bidirs →
+        IsTrue result }
 {
     all_ins(chains) == both(module.inputs, module.bidirs)
         && all_outs(chains) == both(module.outputs, module.bidirs)
@@ -169,8 +180,11 @@ fn takes_terminals(module: &Module, chains: &[ChainPlan]) -> bool
 ///
 /// It counts, takes no memory, and reads each listed scan chain once for every 1,024 scan chains of the module.
 pub fn is_proper(module: &Module, wrapper: &Wrapper) -> bool
-    ensures proper { IsTrue result → IsProper (module_value «module».now) wrapper.now.scan (map chain_value wrapper.now.chains.items) }
-    ensures only { IsProper (module_value «module».now) wrapper.now.scan (map chain_value wrapper.now.chains.items) → IsTrue result }
+    ensures proper { IsTrue result →
+        IsProper (module_value «module».now) wrapper.now.scan
+        (map chain_value wrapper.now.chains.items) }
+    ensures only { IsProper (module_value «module».now) wrapper.now.scan
+        (map chain_value wrapper.now.chains.items) → IsTrue result }
 {
     let lengths = mode_chains(module, wrapper.scan);
     if !takes_terminals(module, &wrapper.chains) {
@@ -199,11 +213,14 @@ fn flops_of(lengths: &[u64], scans: &[u64]) -> u64
 ///
 /// Every module of a sound chip is small enough: `module_size-le` of proofs/SoundChips.antt.
 pub fn lengths(module: &Module, wrapper: &Wrapper) -> (u64, u64)
-    requires proper { IsProper (module_value «module».now) wrapper.now.scan (map chain_value wrapper.now.chains.items) }
+    requires proper { IsProper (module_value «module».now) wrapper.now.scan
+        (map chain_value wrapper.now.chains.items) }
     requires small { module_size (module_value «module».now) ≤ 10 ^ 18 }
-    ensures si { result.0 ≡ greatest (map in_length (chain_cells (module_value «module».now) wrapper.now.scan
+    ensures si { result.0
+        ≡ greatest (map in_length (chain_cells (module_value «module».now) wrapper.now.scan
         (map chain_value wrapper.now.chains.items))) }
-    ensures so { result.1 ≡ greatest (map out_length (chain_cells (module_value «module».now) wrapper.now.scan
+    ensures so { result.1
+        ≡ greatest (map out_length (chain_cells (module_value «module».now) wrapper.now.scan
         (map chain_value wrapper.now.chains.items))) }
 {
     let lengths = mode_chains(module, wrapper.scan);
@@ -222,14 +239,17 @@ pub fn lengths(module: &Module, wrapper: &Wrapper) -> (u64, u64)
 /// Every live test over the wires of a sound chip meets the condition on its work: `tam_work-le` of
 /// proofs/SoundChips.antt.
 pub fn tam_duration(module: &Module, wrapper: &Wrapper, test: &Test) -> u64
-    requires proper { IsProper (module_value «module».now) wrapper.now.scan (map chain_value wrapper.now.chains.items) }
+    requires proper { IsProper (module_value «module».now) wrapper.now.scan
+        (map chain_value wrapper.now.chains.items) }
     requires mode { wrapper.now.scan ≡ test.now.scan }
     requires tam { IsTrue test.now.tam }
     requires live { 1 ≤ test.now.patterns }
-    requires work { «module».now.setup + test.now.patterns * module_size (module_value «module».now) ≤ 10 ^ 18 }
+    requires work { «module».now.setup + test.now.patterns * module_size (module_value «module».now)
+        ≤ 10 ^ 18 }
     ensures small { result ≤ 10 ^ 18 }
-    ensures time { result ≡ length (operations_of (module_value «module».now) test.now
-        (chain_cells (module_value «module».now) test.now.scan (map chain_value wrapper.now.chains.items))) }
+    ensures time { result
+        ≡ length (operations_of (module_value «module».now) test.now (chain_cells
+        (module_value «module».now) test.now.scan (map chain_value wrapper.now.chains.items))) }
 {
     let (si, so) = lengths(module, wrapper);
     closed_time(module.setup, si, so, test.patterns)
@@ -241,9 +261,12 @@ pub fn tam_duration(module: &Module, wrapper: &Wrapper, test: &Test) -> u64
 pub fn test_cycles(wrappers: &[Wrapper], module: &Module, test: &Test) -> u64
     requires live { 1 ≤ test.now.patterns }
     requires work { test_work (module_value «module».now) test.now ≤ 10 ^ 18 }
-    requires wrapped { IsTrue test.now.tam → IsWrapped (module_value «module».now) test.now (map wrapper_value wrappers.now) }
+    requires wrapped { IsTrue test.now.tam →
+        IsWrapped (module_value «module».now) test.now (map wrapper_value wrappers.now) }
     ensures time { (plan : PlanValue) → plan.wrappers ≡ map wrapper_value wrappers.now →
-        result ≡ length (operations_of (module_value «module».now) test.now (chains_of plan (module_value «module».now) test.now)) }
+        result
+        ≡ length (operations_of (module_value «module».now) test.now
+        (chains_of plan (module_value «module».now) test.now)) }
 {
     if !test.tam {
         return test.patterns;

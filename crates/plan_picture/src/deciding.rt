@@ -26,14 +26,16 @@ use std::alloc::Global;
 
 /// The picture of a plan that is accepted.
 fn picture_for(alloc: Global, all: &Accepted) -> Result<Vec<u8>, NoMemory>
-    ensures { IfOk result (λ text. text.items ≡ picture_text all.now.soc all.now.limits all.now.plan) }
+    ensures { IfOk result
+        (λ text. text.items ≡ picture_text all.now.soc all.now.limits all.now.plan) }
 {
     print_picture(alloc, &all.limits, &all.placed_plan())
 }
 
 /// The picture of a plan that is accepted, with the claim of a proof, in cycles, in the place of the plan's own bound.
 fn claim_picture_for(alloc: Global, all: &Accepted, claimed: u64) -> Result<Vec<u8>, NoMemory>
-    ensures { IfOk result (λ text. text.items ≡ picture_of_claim all.now.soc all.now.limits all.now.plan claimed) }
+    ensures { IfOk result
+        (λ text. text.items ≡ picture_of_claim all.now.soc all.now.limits all.now.plan claimed) }
 {
     print_picture_of_claim(alloc, &all.limits, &all.placed_plan(), claimed)
 }
@@ -48,8 +50,8 @@ fn decide_picture<H: Shelf>(
 ) -> Verdict
     ensures held_stays { H.held shelf.new ≡ H.held shelf.old }
     ensures faults_never_fall { H.faults shelf.old ≤ H.faults shelf.new }
-    ensures follows { Follows (procedure_of (Picture soc.now limits.now plan.now)) (H.held shelf.old) (H.faults shelf.old)
-        (H.faults shelf.new) result }
+    ensures follows { Follows (procedure_of (Picture soc.now limits.now plan.now))
+        (H.held shelf.old) (H.faults shelf.old) (H.faults shelf.new) result }
     ensures by_loads { LoadsGive H.is_load (procedure_of (Picture soc.now limits.now plan.now))
         shelf.old result shelf.new }
 {
@@ -70,8 +72,10 @@ fn checked_for(
     proof: &Proof,
 ) -> Result<Result<(), ProofFault>, NoMemory>
     requires { MayBeSaid (proof_value proof.now) }
-    ensures accepted { IfOk result (λ checked. OnOk checked (IsAccepted all.now.soc all.now.limits (proof_value proof.now))) }
-    ensures fault { IfOk result (λ checked. IfErr checked (IsProofFault all.now.soc all.now.limits (proof_value proof.now))) }
+    ensures accepted { IfOk result
+        (λ checked. OnOk checked (IsAccepted all.now.soc all.now.limits (proof_value proof.now))) }
+    ensures fault { IfOk result (λ checked. IfErr checked
+        (IsProofFault all.now.soc all.now.limits (proof_value proof.now))) }
 {
     let checked = checked_proof(alloc, &all.problem(), proof)?;
     Ok(checked)
@@ -79,7 +83,8 @@ fn checked_for(
 
 /// What is answered of a proof's bytes, for a plan that is accepted: the picture with the claim, or as `bound` refuses them.
 fn answer_proof(alloc: Global, all: &Accepted, bytes: &[u8]) -> Verdict
-    ensures { AnswersBytes (SaysBound all.now.soc all.now.limits) (RefusesProof all.now.soc all.now.limits)
+    ensures { AnswersBytes (SaysBound all.now.soc all.now.limits)
+        (RefusesProof all.now.soc all.now.limits)
         (claim_picture all.now.soc all.now.limits all.now.plan) bytes.now result }
 {
     let proof = match read_proof(alloc, bytes) {
@@ -129,7 +134,8 @@ fn decide_claim<H: Shelf>(
 ) -> Verdict
     ensures held_stays { H.held shelf.new ≡ H.held shelf.old }
     ensures faults_never_fall { H.faults shelf.old ≤ H.faults shelf.new }
-    ensures follows { Follows (procedure_of (PictureWithProof soc.now limits.now plan.now proof.now)) (H.held shelf.old)
+    ensures follows { Follows
+        (procedure_of (PictureWithProof soc.now limits.now plan.now proof.now)) (H.held shelf.old)
         (H.faults shelf.old) (H.faults shelf.new) result }
     ensures by_loads { LoadsGive H.is_load
         (procedure_of (PictureWithProof soc.now limits.now plan.now proof.now))
@@ -145,12 +151,14 @@ fn decide_claim<H: Shelf>(
 pub(crate) fn decide<H: Shelf>(alloc: Global, words: &[String], shelf: &mut H) -> Verdict
     ensures held_stays { H.held shelf.new ≡ H.held shelf.old }
     ensures faults_never_fall { H.faults shelf.old ≤ H.faults shelf.new }
-    ensures decides { Decides (asked procedure_of (asked_command (map string_bytes words.now))) (H.held shelf.old) (H.faults shelf.old)
-        (H.faults shelf.new) result }
+    ensures decides { Decides (asked procedure_of (asked_command (map string_bytes words.now)))
+        (H.held shelf.old) (H.faults shelf.old) (H.faults shelf.new) result }
     ensures by_loads { LoadsGive H.is_load
         (asked procedure_of (asked_command (map string_bytes words.now)))
         shelf.old result shelf.new }
-    ensures untouched { (IsCommand (asked procedure_of (asked_command (map string_bytes words.now))) → ⊥) → shelf.new ≡ shelf.old }
+    ensures untouched { (IsCommand
+        (asked procedure_of (asked_command (map string_bytes words.now))) → ⊥) →
+        shelf.new ≡ shelf.old }
 {
     match command_of(words) {
         Some(Command::Picture { soc, limits, plan }) => {

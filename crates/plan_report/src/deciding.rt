@@ -17,7 +17,8 @@ use std::alloc::Global;
 
 /// The report of a plan that is accepted.
 fn report_of(alloc: Global, all: &Accepted) -> Result<Vec<u8>, NoMemory>
-    ensures { IfOk result (λ text. text.items ≡ report_text all.now.soc all.now.limits all.now.plan) }
+    ensures { IfOk result
+        (λ text. text.items ≡ report_text all.now.soc all.now.limits all.now.plan) }
 {
     print_report(alloc, &all.limits, &all.placed_plan())
 }
@@ -32,8 +33,8 @@ fn decide_report<H: Shelf>(
 ) -> Verdict
     ensures held_stays { H.held shelf.new ≡ H.held shelf.old }
     ensures faults_never_fall { H.faults shelf.old ≤ H.faults shelf.new }
-    ensures follows { Follows (procedure_of (Report soc.now limits.now plan.now)) (H.held shelf.old) (H.faults shelf.old)
-        (H.faults shelf.new) result }
+    ensures follows { Follows (procedure_of (Report soc.now limits.now plan.now)) (H.held shelf.old)
+        (H.faults shelf.old) (H.faults shelf.new) result }
     ensures by_loads { LoadsGive H.is_load (procedure_of (Report soc.now limits.now plan.now))
         shelf.old result shelf.new }
 {
@@ -51,12 +52,14 @@ fn decide_report<H: Shelf>(
 pub(crate) fn decide<H: Shelf>(alloc: Global, words: &[String], shelf: &mut H) -> Verdict
     ensures held_stays { H.held shelf.new ≡ H.held shelf.old }
     ensures faults_never_fall { H.faults shelf.old ≤ H.faults shelf.new }
-    ensures decides { Decides (asked procedure_of (asked_command (map string_bytes words.now))) (H.held shelf.old) (H.faults shelf.old)
-        (H.faults shelf.new) result }
+    ensures decides { Decides (asked procedure_of (asked_command (map string_bytes words.now)))
+        (H.held shelf.old) (H.faults shelf.old) (H.faults shelf.new) result }
     ensures by_loads { LoadsGive H.is_load
         (asked procedure_of (asked_command (map string_bytes words.now)))
         shelf.old result shelf.new }
-    ensures untouched { (IsCommand (asked procedure_of (asked_command (map string_bytes words.now))) → ⊥) → shelf.new ≡ shelf.old }
+    ensures untouched { (IsCommand
+        (asked procedure_of (asked_command (map string_bytes words.now))) → ⊥) →
+        shelf.new ≡ shelf.old }
 {
     match command_of(words) {
         Some(Command::Report { soc, limits, plan }) => {

@@ -26,17 +26,19 @@ pub fn report_plan<H: Shelf, K: Sink>(
     out: &mut K,
 ) -> Status
     ensures held_stays { H.held shelf.new ≡ H.held shelf.old }
-    ensures faults_never_fall { (H.faults shelf.old ≤ H.faults shelf.new) × (K.faults out.old ≤ K.faults out.new) }
+    ensures faults_never_fall { (H.faults shelf.old ≤ H.faults shelf.new)
+        × (K.faults out.old ≤ K.faults out.new) }
 
     // What every top call promises of its answer.
-    ensures answers { IsTopCall H.is_load K.is_put true (asked procedure_of (command_of (map string_bytes words.now)))
-        (H.held shelf.old) shelf.old shelf.new (H.faults shelf.old) (H.faults shelf.new) out.old out.new (K.faults out.old)
+    ensures answers { IsTopCall H.is_load K.is_put true
+        (asked procedure_of (command_of (map string_bytes words.now))) (H.held shelf.old) shelf.old
+        shelf.new (H.faults shelf.old) (H.faults shelf.new) out.old out.new (K.faults out.old)
         (K.faults out.new) (K.written out.old) result (K.written out.new) }
 
     // The headline: a plan of which is reported is good and runs right, its bound is one, and the report of it is written, whose
     // power is the greatest, whose busy and idle cycles are those of each bus, and whose tests go back to one that nothing held.
-    ensures headline { Headline (command_of (map string_bytes words.now)) (H.held shelf.old) (K.written out.old) result
-        (K.written out.new) }
+    ensures headline { Headline (command_of (map string_bytes words.now)) (H.held shelf.old)
+        (K.written out.old) result (K.written out.new) }
 {
     good_plans_run_right();
     certificates_are_bounds();

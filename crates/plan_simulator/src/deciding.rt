@@ -60,10 +60,10 @@ fn decide_simulate<H: Shelf>(
 ) -> Verdict
     ensures held_stays { H.held shelf.new ≡ H.held shelf.old }
     ensures faults_never_fall { H.faults shelf.old ≤ H.faults shelf.new }
-    ensures follows { Follows (procedure_of (Simulate soc.now limits.now plan.now seed)) (H.held shelf.old) (H.faults shelf.old)
-        (H.faults shelf.new) result }
-    ensures by_loads { LoadsGive H.is_load (procedure_of (Simulate soc.now limits.now plan.now seed))
-        shelf.old result shelf.new }
+    ensures follows { Follows (procedure_of (Simulate soc.now limits.now plan.now seed))
+        (H.held shelf.old) (H.faults shelf.old) (H.faults shelf.new) result }
+    ensures by_loads { LoadsGive H.is_load
+        (procedure_of (Simulate soc.now limits.now plan.now seed)) shelf.old result shelf.new }
 {
     match load_all(alloc, soc, limits, plan, shelf) {
         Ok(all) => {
@@ -79,12 +79,14 @@ fn decide_simulate<H: Shelf>(
 pub(crate) fn decide<H: Shelf>(alloc: Global, words: &[String], shelf: &mut H) -> Verdict
     ensures held_stays { H.held shelf.new ≡ H.held shelf.old }
     ensures faults_never_fall { H.faults shelf.old ≤ H.faults shelf.new }
-    ensures decides { Decides (asked procedure_of (asked_command (map string_bytes words.now))) (H.held shelf.old) (H.faults shelf.old)
-        (H.faults shelf.new) result }
+    ensures decides { Decides (asked procedure_of (asked_command (map string_bytes words.now)))
+        (H.held shelf.old) (H.faults shelf.old) (H.faults shelf.new) result }
     ensures by_loads { LoadsGive H.is_load
         (asked procedure_of (asked_command (map string_bytes words.now)))
         shelf.old result shelf.new }
-    ensures untouched { (IsCommand (asked procedure_of (asked_command (map string_bytes words.now))) → ⊥) → shelf.new ≡ shelf.old }
+    ensures untouched { (IsCommand
+        (asked procedure_of (asked_command (map string_bytes words.now))) → ⊥) →
+        shelf.new ≡ shelf.old }
 {
     match command_of(words) {
         Some(

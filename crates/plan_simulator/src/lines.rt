@@ -9,7 +9,8 @@ use std::alloc::Global;
 
 /// `cycles C captures N loaded M`: what a chip under test has done.
 pub(crate) fn counts_line(alloc: Global, report: Report) -> Result<Vec<u8>, NoMemory>
-    ensures { IfOk result (λ text. text.items ≡ counts_text report.cycle report.captures report.right_loads) }
+    ensures { IfOk result
+        (λ text. text.items ≡ counts_text report.cycle report.captures report.right_loads) }
 {
     let mut text = Vec::new(alloc);
     push_text(&mut text, b"cycles ")?;

@@ -24,8 +24,8 @@ fn run_cycle(chip: &mut Chip<'_>, drive: &mut [bool], read: &mut [bool])
     requires left { chip.old.cycle < chip.old.plan.cycles }
     requires driven { length drive.old ≡ wires_of chip.old.plan }
     requires shown { length read.old ≡ wires_of chip.old.plan }
-    ensures { (soc : SocValue) (plan : PlanValue) (seed cycle : ℕ) → IsGoodAlone soc plan → IsAfter soc plan seed cycle chip.old →
-        IsAfter soc plan seed (cycle + 1) chip.new }
+    ensures { (soc : SocValue) (plan : PlanValue) (seed cycle : ℕ) → IsGoodAlone soc plan →
+        IsAfter soc plan seed cycle chip.old → IsAfter soc plan seed (cycle + 1) chip.new }
 {
     chip.want(drive);
     chip.cycle(drive, read);

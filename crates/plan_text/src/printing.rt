@@ -16,7 +16,8 @@ use soc_model::TestId;
 use std::alloc::Global;
 
 fn push_bus(to: &mut Vec<u8>, bus: &Bus) -> Result<(), NoMemory>
-    ensures { OnOk result (to.new.items ≡ to.old.items ++ line_text spelling (bus_line (bus_value bus.now))) }
+    ensures { OnOk result
+        (to.new.items ≡ to.old.items ++ line_text spelling (bus_line (bus_value bus.now))) }
 {
     extend(to, b"Bus")?;
     push_spaced(to, bus.width)?;
@@ -25,7 +26,8 @@ fn push_bus(to: &mut Vec<u8>, bus: &Bus) -> Result<(), NoMemory>
 }
 
 fn push_chain(to: &mut Vec<u8>, chain: &ChainPlan) -> Result<(), NoMemory>
-    ensures { OnOk result (to.new.items ≡ to.old.items ++ line_text spelling (chain_line (chain_value chain.now))) }
+    ensures { OnOk result
+        (to.new.items ≡ to.old.items ++ line_text spelling (chain_line (chain_value chain.now))) }
 {
     extend(to, b"Chain")?;
     push_spaced(to, chain.ins)?;
@@ -35,7 +37,8 @@ fn push_chain(to: &mut Vec<u8>, chain: &ChainPlan) -> Result<(), NoMemory>
 }
 
 fn push_start(to: &mut Vec<u8>, test: &TestId, start: u64) -> Result<(), NoMemory>
-    ensures { OnOk result (to.new.items ≡ to.old.items ++ line_text spelling (start_line (test.now, start))) }
+    ensures { OnOk result
+        (to.new.items ≡ to.old.items ++ line_text spelling (start_line (test.now, start))) }
 {
     extend(to, b"Start")?;
     push_spaced(to, test.module)?;
@@ -55,7 +58,8 @@ fn push_mode(to: &mut Vec<u8>, scan: bool) -> Result<(), NoMemory>
 }
 
 fn push_wrapper_head(to: &mut Vec<u8>, module: u64, scan: bool) -> Result<(), NoMemory>
-    ensures { OnOk result (to.new.items ≡ to.old.items ++ line_text spelling (wrapper_line «module» scan)) }
+    ensures { OnOk result
+        (to.new.items ≡ to.old.items ++ line_text spelling (wrapper_line «module» scan)) }
 {
     extend(to, b"Wrapper")?;
     push_spaced(to, module)?;
@@ -64,7 +68,8 @@ fn push_wrapper_head(to: &mut Vec<u8>, module: u64, scan: bool) -> Result<(), No
 }
 
 fn push_chains(to: &mut Vec<u8>, chains: &[ChainPlan]) -> Result<(), NoMemory>
-    ensures { OnOk result (to.new.items ≡ to.old.items ++ text_of spelling (map chain_line (map chain_value chains.now))) }
+    ensures { OnOk result (to.new.items
+        ≡ to.old.items ++ text_of spelling (map chain_line (map chain_value chains.now))) }
 {
     for chain in chains {
         push_chain(to, chain)?;
@@ -73,7 +78,8 @@ fn push_chains(to: &mut Vec<u8>, chains: &[ChainPlan]) -> Result<(), NoMemory>
 }
 
 fn push_wrapper(to: &mut Vec<u8>, wrapper: &Wrapper) -> Result<(), NoMemory>
-    ensures { OnOk result (to.new.items ≡ to.old.items ++ text_of spelling (wrapper_lines (wrapper_value wrapper.now))) }
+    ensures { OnOk result (to.new.items
+        ≡ to.old.items ++ text_of spelling (wrapper_lines (wrapper_value wrapper.now))) }
 {
     push_wrapper_head(to, wrapper.module, wrapper.scan)?;
     push_chains(to, wrapper.chains.as_slice())
@@ -95,7 +101,8 @@ fn reason_word(why: &Why) -> &'static [u8]
 
 /// The numbers of tests, each with a space before it.
 fn push_tests(to: &mut Vec<u8>, tests: &[TestId]) -> Result<(), NoMemory>
-    ensures { OnOk result (to.new.items ≡ to.old.items ++ spaced_numbers (flat_map test_numbers tests.now)) }
+    ensures { OnOk result
+        (to.new.items ≡ to.old.items ++ spaced_numbers (flat_map test_numbers tests.now)) }
 {
     for test in tests {
         push_spaced(to, test.module)?;
@@ -106,7 +113,8 @@ fn push_tests(to: &mut Vec<u8>, tests: &[TestId]) -> Result<(), NoMemory>
 
 /// The numbers of a bound's reason, each with a space before it.
 fn push_reason_numbers(to: &mut Vec<u8>, why: &Why) -> Result<(), NoMemory>
-    ensures { OnOk result (to.new.items ≡ to.old.items ++ spaced_numbers (reason_numbers (why_value why.now))) }
+    ensures { OnOk result
+        (to.new.items ≡ to.old.items ++ spaced_numbers (reason_numbers (why_value why.now))) }
 {
     match why {
         Why::Module { module } | Why::Pair { module } => push_spaced(to, *module),
@@ -117,7 +125,8 @@ fn push_reason_numbers(to: &mut Vec<u8>, why: &Why) -> Result<(), NoMemory>
 }
 
 fn push_bound(to: &mut Vec<u8>, bound: &Bound) -> Result<(), NoMemory>
-    ensures { OnOk result (to.new.items ≡ to.old.items ++ line_text spelling (bound_line (bound_value bound.now))) }
+    ensures { OnOk result
+        (to.new.items ≡ to.old.items ++ line_text spelling (bound_line (bound_value bound.now))) }
 {
     extend(to, b"Bound")?;
     push_spaced(to, bound.cycles)?;
@@ -127,7 +136,8 @@ fn push_bound(to: &mut Vec<u8>, bound: &Bound) -> Result<(), NoMemory>
 }
 
 fn push_buses(to: &mut Vec<u8>, buses: &[Bus]) -> Result<(), NoMemory>
-    ensures { OnOk result (to.new.items ≡ to.old.items ++ text_of spelling (map bus_line (map bus_value buses.now))) }
+    ensures { OnOk result
+        (to.new.items ≡ to.old.items ++ text_of spelling (map bus_line (map bus_value buses.now))) }
 {
     for bus in buses {
         push_bus(to, bus)?;
@@ -136,7 +146,9 @@ fn push_buses(to: &mut Vec<u8>, buses: &[Bus]) -> Result<(), NoMemory>
 }
 
 fn push_wrappers(to: &mut Vec<u8>, wrappers: &[Wrapper]) -> Result<(), NoMemory>
-    ensures { OnOk result (to.new.items ≡ to.old.items ++ text_of spelling (flat_map wrapper_lines (map wrapper_value wrappers.now))) }
+    ensures { OnOk result (to.new.items
+        ≡ to.old.items
+        ++ text_of spelling (flat_map wrapper_lines (map wrapper_value wrappers.now))) }
 {
     for wrapper in wrappers {
         push_wrapper(to, wrapper)?;
@@ -145,7 +157,8 @@ fn push_wrappers(to: &mut Vec<u8>, wrappers: &[Wrapper]) -> Result<(), NoMemory>
 }
 
 fn push_starts(to: &mut Vec<u8>, starts: &[(TestId, u64)]) -> Result<(), NoMemory>
-    ensures { OnOk result (to.new.items ≡ to.old.items ++ text_of spelling (map start_line starts.now)) }
+    ensures { OnOk result
+        (to.new.items ≡ to.old.items ++ text_of spelling (map start_line starts.now)) }
 {
     for start in starts {
         push_start(to, &start.0, start.1)?;
@@ -167,7 +180,8 @@ fn push_head(to: &mut Vec<u8>, cycles: u64) -> Result<(), NoMemory>
 /// The text of a plan. Reading it gives the plan again, where the plan's numbers are in the grammar's range.
 pub fn print_plan(alloc: Global, plan: &Plan) -> Result<Vec<u8>, NoMemory>
     ensures text { IfOk result (λ text. text.items ≡ plan_text (plan_value plan.now)) }
-    ensures read_again { IfOk result (λ text. IsInRange (plan_value plan.now) → SaysPlan text.items (plan_value plan.now)) }
+    ensures read_again { IfOk result
+        (λ text. IsInRange (plan_value plan.now) → SaysPlan text.items (plan_value plan.now)) }
 {
     let mut text = Vec::new(alloc);
     push_head(&mut text, plan.cycles)?;

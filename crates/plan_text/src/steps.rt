@@ -26,7 +26,8 @@ pub fn new_draft(alloc: Global) -> Draft
 }
 
 fn push_bus(draft: &mut Draft, bus: Bus) -> Result<(), Stop>
-    ensures ok { OnOk result (draft_value draft.new ≡ with_bus (draft_value draft.old) (bus_value bus)) }
+    ensures ok { OnOk result
+        (draft_value draft.new ≡ with_bus (draft_value draft.old) (bus_value bus)) }
     ensures err { OnErr result (result ≡ Err Stop.NoMemory) }
 {
     draft.buses.push(bus)?;
@@ -34,7 +35,8 @@ fn push_bus(draft: &mut Draft, bus: Bus) -> Result<(), Stop>
 }
 
 fn push_wrapper(draft: &mut Draft, wrapper: Wrapper) -> Result<(), Stop>
-    ensures ok { OnOk result (draft_value draft.new ≡ with_wrapper (draft_value draft.old) (wrapper_value wrapper)) }
+    ensures ok { OnOk result
+        (draft_value draft.new ≡ with_wrapper (draft_value draft.old) (wrapper_value wrapper)) }
     ensures err { OnErr result (result ≡ Err Stop.NoMemory) }
 {
     draft.wrappers.push(wrapper)?;
@@ -42,7 +44,8 @@ fn push_wrapper(draft: &mut Draft, wrapper: Wrapper) -> Result<(), Stop>
 }
 
 fn push_start(draft: &mut Draft, test: TestId, start: u64) -> Result<(), Stop>
-    ensures ok { OnOk result (draft_value draft.new ≡ with_start (draft_value draft.old) test start) }
+    ensures ok { OnOk result
+        (draft_value draft.new ≡ with_start (draft_value draft.old) test start) }
     ensures err { OnErr result (result ≡ Err Stop.NoMemory) }
 {
     draft.starts.push((test, start))?;
@@ -50,7 +53,8 @@ fn push_start(draft: &mut Draft, test: TestId, start: u64) -> Result<(), Stop>
 }
 
 fn push_chain(wrapper: &mut Wrapper, chain: ChainPlan) -> Result<(), Stop>
-    ensures ok { OnOk result (wrapper_value wrapper.new ≡ with_chain (wrapper_value wrapper.old) (chain_value chain)) }
+    ensures ok { OnOk result
+        (wrapper_value wrapper.new ≡ with_chain (wrapper_value wrapper.old) (chain_value chain)) }
     ensures err { OnErr result (result ≡ Err Stop.NoMemory) }
 {
     wrapper.chains.push(chain)?;
@@ -173,7 +177,8 @@ fn step_wrapper(
     wrapper: Wrapper,
     key: Keyword,
 ) -> Result<(), Stop>
-    ensures { Steps (steps_wrapper (draft_value draft.old) (wrapper_value wrapper) key (chains key)) result part.new draft.new }
+    ensures { Steps (steps_wrapper (draft_value draft.old) (wrapper_value wrapper) key (chains key))
+        result part.new draft.new }
 {
     if is_chain(key) {
         *part = Part::WantsIns(wrapper);
@@ -185,7 +190,8 @@ fn step_wrapper(
 
 /// A keyword after a bus.
 fn step_bus(draft: &mut Draft, part: &mut Part, bus: Bus, key: Keyword) -> Result<(), Stop>
-    ensures { Steps (steps_key (draft_value draft.old) (in_bus (bus_value bus)) key) result part.new draft.new }
+    ensures { Steps (steps_key (draft_value draft.old) (in_bus (bus_value bus)) key) result part.new
+        draft.new }
 {
     push_bus(draft, bus)?;
     begin_part(part, key, Section::Buses)
@@ -219,7 +225,8 @@ fn no_bus(alloc: Global) -> Bus {
 
 /// A keyword as the next word.
 fn step_key(alloc: Global, draft: &mut Draft, part: &mut Part, key: Keyword) -> Result<(), Stop>
-    ensures { Steps (steps_key (draft_value draft.old) (part_value part.old) key) result part.new draft.new }
+    ensures { Steps (steps_key (draft_value draft.old) (part_value part.old) key) result part.new
+        draft.new }
 {
     match part {
         Part::WantsPlan => begin_plan(part, key),
@@ -281,7 +288,8 @@ fn step_form(draft: &mut Draft, part: &mut Part, n: u64) -> Result<(), Stop>
 
 /// The start of a test.
 fn step_start(draft: &mut Draft, part: &mut Part, test: TestId, n: u64) -> Result<(), Stop>
-    ensures { Steps (steps_number (draft_value draft.old) (wants_start test) n) result part.new draft.new }
+    ensures { Steps (steps_number (draft_value draft.old) (wants_start test) n) result part.new
+        draft.new }
 {
     if n > START_MOST {
         return Err(Stop::Refused);
@@ -315,7 +323,8 @@ fn go_on(part: &mut Part, next: Part) -> Result<(), Stop>
 
 /// A number as the next word. What goes on is changed where it stands.
 fn step_number(alloc: Global, draft: &mut Draft, part: &mut Part, n: u64) -> Result<(), Stop>
-    ensures { Steps (steps_number (draft_value draft.old) (part_value part.old) n) result part.new draft.new }
+    ensures { Steps (steps_number (draft_value draft.old) (part_value part.old) n) result part.new
+        draft.new }
 {
     match part {
         Part::WantsForm => step_form(draft, part, n),
@@ -405,7 +414,8 @@ pub fn take_token(
     part: &mut Part,
     token: Token<Keyword>,
 ) -> Result<(), Stop>
-    ensures { Steps (steps (at (draft_value draft.old) (part_value part.old)) token) result part.new draft.new }
+    ensures { Steps (steps (at (draft_value draft.old) (part_value part.old)) token) result part.new
+        draft.new }
 {
     match token {
         Token::Key(key) => step_key(alloc, draft, part, key),

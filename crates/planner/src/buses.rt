@@ -26,7 +26,8 @@ fn number_of(soc: &Soc, place: usize) -> u64
 /// A bus of an architecture, by the numbers of its modules.
 fn bus_of(alloc: Global, soc: &Soc, bus: &ArchBus) -> Result<Bus, NoMemory>
     requires { All (λ p. p < length (soc_value soc.now).modules) bus.now.places.items }
-    ensures { IfOk result (λ named. bus_value named ≡ plan_bus (soc_value soc.now) (arch_bus_value bus.now)) }
+    ensures { IfOk result
+        (λ named. bus_value named ≡ plan_bus (soc_value soc.now) (arch_bus_value bus.now)) }
 {
     let mut modules = Vec::new(alloc);
     for place in &bus.places {
@@ -40,8 +41,11 @@ fn bus_of(alloc: Global, soc: &Soc, bus: &ArchBus) -> Result<Bus, NoMemory>
 
 /// The buses of an architecture in its order, by the numbers of their modules.
 fn buses_of(alloc: Global, soc: &Soc, arch: &Arch) -> Result<Vec<Bus>, NoMemory>
-    requires { All (λ (bus : ArchBusValue). All (λ p. p < length (soc_value soc.now).modules) bus.places) (arch_value arch.now) }
-    ensures { IfOk result (λ buses. map bus_value buses.items ≡ plan_buses (soc_value soc.now) (arch_value arch.now)) }
+    requires { All
+        (λ (bus : ArchBusValue). All (λ p. p < length (soc_value soc.now).modules) bus.places)
+        (arch_value arch.now) }
+    ensures { IfOk result (λ buses. map bus_value buses.items
+        ≡ plan_buses (soc_value soc.now) (arch_value arch.now)) }
 {
     let mut buses = Vec::new(alloc);
     for bus in &arch.buses {
@@ -55,7 +59,8 @@ pub fn settled_buses(alloc: Global, soc: &Soc, table: &WidthTable) -> Result<Vec
     requires { table.now.soc ≡ soc_value soc.now }
     ensures settled { IfOk result (λ buses. AreSettledBuses table.now (map bus_value buses.items)) }
     ensures widths { IfOk result (λ buses. HaveWidths table.now (map bus_value buses.items)) }
-    ensures only { IfOk result (λ buses. (other : List BusValue) → AreSettledBuses table.now other → other ≡ map bus_value buses.items) }
+    ensures only { IfOk result (λ buses. (other : List BusValue) → AreSettledBuses table.now other →
+        other ≡ map bus_value buses.items) }
 {
     // the call tells what every table keeps
     let _wires = table.wires();

@@ -92,9 +92,11 @@ struct ModulePlace {
 /// What the tests of the module at a place share.
 fn shared_of(parts: &Parts<'_>, place: usize, module: &Module) -> ModulePlace
     requires parts { AreParts parts.now }
-    requires module_there { slice_get (chip_of parts.now.source.now).modules place ≡ Some (module_value «module».now) }
+    requires module_there { slice_get (chip_of parts.now.source.now).modules place
+        ≡ Some (module_value «module».now) }
     ensures place { result.place ≡ place }
-    ensures shared { IsShared (chip_of parts.now.source.now) (plan_of parts.now.source.now) (module_value «module».now) result }
+    ensures shared { IsShared (chip_of parts.now.source.now) (plan_of parts.now.source.now)
+        (module_value «module».now) result }
 {
     let source = parts.source;
     let scan = parts.wrappers.get(&(module.number, true)).copied();
@@ -117,10 +119,12 @@ fn test_of(
     test: &Test,
 ) -> Result<JobTest, NoMemory>
     requires parts { AreParts parts.now }
-    requires shared { IsShared (chip_of parts.now.source.now) (plan_of parts.now.source.now) (module_value «module».now) shared.now }
+    requires shared { IsShared (chip_of parts.now.source.now) (plan_of parts.now.source.now)
+        (module_value «module».now) shared.now }
     requires test_there { (k : ℕ) × (slice_get «module».now.tests.items k ≡ Some test.now) }
     requires is_live { is_live test.now ≡ true }
-    ensures { IfOk result (λ t. test_value t ≡ test_in (chip_of parts.now.source.now) (limits_of parts.now.source.now)
+    ensures { IfOk result (λ t. test_value t
+        ≡ test_in (chip_of parts.now.source.now) (limits_of parts.now.source.now)
         (plan_of parts.now.source.now) shared.now.place (module_value «module».now) test.now) }
 {
     let id = TestId {
@@ -148,10 +152,14 @@ fn push_live(
     module: &Module,
 ) -> Result<(), NoMemory>
     requires parts { AreParts parts.now }
-    requires module_there { slice_get (chip_of parts.now.source.now).modules place ≡ Some (module_value «module».now) }
-    ensures { OnOk result (map test_value tests.new.items ≡ map test_value tests.old.items
-        ++ map (test_in (chip_of parts.now.source.now) (limits_of parts.now.source.now) (plan_of parts.now.source.now) place
-        (module_value «module».now)) (filter is_live «module».now.tests.items)) }
+    requires module_there { slice_get (chip_of parts.now.source.now).modules place
+        ≡ Some (module_value «module».now) }
+    ensures { OnOk result (map test_value tests.new.items
+        ≡ map test_value tests.old.items
+        ++ map
+        (test_in (chip_of parts.now.source.now) (limits_of parts.now.source.now)
+        (plan_of parts.now.source.now) place (module_value «module».now))
+        (filter is_live «module».now.tests.items)) }
 {
     let shared = shared_of(parts, place, module);
     for test in &module.tests {
@@ -167,7 +175,8 @@ fn push_live(
 fn tests_of(alloc: Global, parts: &Parts<'_>) -> Result<Vec<JobTest>, NoMemory>
     requires { AreParts parts.now }
     ensures { IfOk result (λ tests. map test_value tests.items
-        ≡ (the_job (chip_of parts.now.source.now) (limits_of parts.now.source.now) (plan_of parts.now.source.now)).tests) }
+        ≡ (the_job (chip_of parts.now.source.now) (limits_of parts.now.source.now)
+        (plan_of parts.now.source.now)).tests) }
 {
     let soc = parts.source.soc;
     let mut tests = Vec::new(alloc);
@@ -181,7 +190,8 @@ fn tests_of(alloc: Global, parts: &Parts<'_>) -> Result<Vec<JobTest>, NoMemory>
 fn job_at(alloc: Global, parts: &Parts<'_>) -> Result<Job, NoMemory>
     requires { AreParts parts.now }
     ensures job { IfOk result (λ job. job_value job
-        ≡ the_job (chip_of parts.now.source.now) (limits_of parts.now.source.now) (plan_of parts.now.source.now)) }
+        ≡ the_job (chip_of parts.now.source.now) (limits_of parts.now.source.now)
+        (plan_of parts.now.source.now)) }
     ensures sound { IsSoundLimits (chip_of parts.now.source.now) (limits_of parts.now.source.now) →
         IfOk result (λ job. IsSoundJob (job_value job)) }
 {
@@ -200,13 +210,16 @@ fn job_at(alloc: Global, parts: &Parts<'_>) -> Result<Job, NoMemory>
 pub fn job_of(alloc: Global, parts: &JobSource<'_>) -> Result<Job, NoMemory>
     requires sound { IsSoundChip (soc_value parts.now.soc.now) }
     requires wrapped { Keeps (soc_value parts.now.soc.now) (limits_value parts.now.limits.now)
-        (settled_parts (map bus_value parts.now.buses.now) (map wrapper_value parts.now.wrappers.now)) Wrappers }
+        (settled_parts (map bus_value parts.now.buses.now)
+        (map wrapper_value parts.now.wrappers.now)) Wrappers }
     requires proper { Keeps (soc_value parts.now.soc.now) (limits_value parts.now.limits.now)
-        (settled_parts (map bus_value parts.now.buses.now) (map wrapper_value parts.now.wrappers.now)) Proper }
-    ensures job { IfOk result (λ job. job_value job ≡ the_job (soc_value parts.now.soc.now) (limits_value parts.now.limits.now)
-        (settled_parts (map bus_value parts.now.buses.now) (map wrapper_value parts.now.wrappers.now))) }
-    ensures sound { IsSoundLimits (soc_value parts.now.soc.now) (limits_value parts.now.limits.now) →
-        IfOk result (λ job. IsSoundJob (job_value job)) }
+        (settled_parts (map bus_value parts.now.buses.now)
+        (map wrapper_value parts.now.wrappers.now)) Proper }
+    ensures job { IfOk result (λ job. job_value job
+        ≡ the_job (soc_value parts.now.soc.now) (limits_value parts.now.limits.now) (settled_parts
+        (map bus_value parts.now.buses.now) (map wrapper_value parts.now.wrappers.now))) }
+    ensures sound { IsSoundLimits (soc_value parts.now.soc.now)
+        (limits_value parts.now.limits.now) → IfOk result (λ job. IsSoundJob (job_value job)) }
 {
     let resolved = Resolved::new(alloc, parts.soc, parts.limits)?;
     job_resolved(alloc, parts, &resolved)
@@ -216,14 +229,17 @@ pub fn job_of(alloc: Global, parts: &JobSource<'_>) -> Result<Job, NoMemory>
 fn job_resolved(alloc: Global, parts: &JobSource<'_>, resolved: &Resolved) -> Result<Job, NoMemory>
     requires sound { IsSoundChip (soc_value parts.now.soc.now) }
     requires wrapped { Keeps (soc_value parts.now.soc.now) (limits_value parts.now.limits.now)
-        (settled_parts (map bus_value parts.now.buses.now) (map wrapper_value parts.now.wrappers.now)) Wrappers }
+        (settled_parts (map bus_value parts.now.buses.now)
+        (map wrapper_value parts.now.wrappers.now)) Wrappers }
     requires proper { Keeps (soc_value parts.now.soc.now) (limits_value parts.now.limits.now)
-        (settled_parts (map bus_value parts.now.buses.now) (map wrapper_value parts.now.wrappers.now)) Proper }
+        (settled_parts (map bus_value parts.now.buses.now)
+        (map wrapper_value parts.now.wrappers.now)) Proper }
     requires resolved { IsResolved (soc_value parts.now.soc.now) parts.now.limits.now resolved.now }
-    ensures job { IfOk result (λ job. job_value job ≡ the_job (soc_value parts.now.soc.now) (limits_value parts.now.limits.now)
-        (settled_parts (map bus_value parts.now.buses.now) (map wrapper_value parts.now.wrappers.now))) }
-    ensures sound { IsSoundLimits (soc_value parts.now.soc.now) (limits_value parts.now.limits.now) →
-        IfOk result (λ job. IsSoundJob (job_value job)) }
+    ensures job { IfOk result (λ job. job_value job
+        ≡ the_job (soc_value parts.now.soc.now) (limits_value parts.now.limits.now) (settled_parts
+        (map bus_value parts.now.buses.now) (map wrapper_value parts.now.wrappers.now))) }
+    ensures sound { IsSoundLimits (soc_value parts.now.soc.now)
+        (limits_value parts.now.limits.now) → IfOk result (λ job. IsSoundJob (job_value job)) }
 {
     let parts = Parts {
         source: parts,

@@ -44,18 +44,23 @@ where
     F: Drop,
     requires sound { IsSoundChip (soc_value soc.now) }
     requires limits { IsSoundLimits (soc_value soc.now) (limits_value limits.now) }
-    requires estimate { IsEstimate (λ t test. F.pre ahead t test) (λ t test estimate. F.post ahead t test estimate) }
-    ensures planned { IfOk result (λ plan. IsPlanned (soc_value soc.now) (limits_value limits.now) (plan_value plan)) }
+    requires estimate { IsEstimate (λ t test. F.pre ahead t test)
+        (λ t test estimate. F.post ahead t test estimate) }
+    ensures planned { IfOk result
+        (λ plan. IsPlanned (soc_value soc.now) (limits_value limits.now) (plan_value plan)) }
     ensures right { IfOk result (λ plan. (content : Content) →
         IsRight (soc_value soc.now) (limits_value limits.now) (plan_value plan) content) }
-    ensures bound { IfOk result (λ plan. IsBound (soc_value soc.now) (limits_value limits.now) plan.bound.cycles) }
-    ensures elementary { IfOk result (λ plan. (n : ℕ) → IsElementary (soc_value soc.now) (limits_value limits.now) n →
-        n ≤ plan.bound.cycles) }
-    ensures only_plan { IfOk result (λ plan. (HasMoreOpen (job_of (soc_value soc.now) (limits_value limits.now) (plan_value plan))
-        (limits_value limits.now).budget → ⊥) → (other : PlanValue) → IsPlanned (soc_value soc.now) (limits_value limits.now) other →
-        other ≡ plan_value plan) }
+    ensures bound { IfOk result
+        (λ plan. IsBound (soc_value soc.now) (limits_value limits.now) plan.bound.cycles) }
+    ensures elementary { IfOk result (λ plan. (n : ℕ) →
+        IsElementary (soc_value soc.now) (limits_value limits.now) n → n ≤ plan.bound.cycles) }
+    ensures only_plan { IfOk result (λ plan. (HasMoreOpen
+        (job_of (soc_value soc.now) (limits_value limits.now) (plan_value plan))
+        (limits_value limits.now).budget → ⊥) → (other : PlanValue) →
+        IsPlanned (soc_value soc.now) (limits_value limits.now) other → other ≡ plan_value plan) }
     ensures only_buses { IfOk result (λ plan. (buses : List BusValue) →
-        AreSettledBuses (table_of (soc_value soc.now) (limits_value limits.now)) buses → buses ≡ (plan_value plan).buses) }
+        AreSettledBuses (table_of (soc_value soc.now) (limits_value limits.now)) buses →
+        buses ≡ (plan_value plan).buses) }
 {
     let resolved = Resolved::new(alloc, soc, limits)?;
     let problem = Problem::new(soc, limits, &resolved);
@@ -70,18 +75,23 @@ pub fn plan_with<F: Fn(&Table<'_>, usize) -> u64>(
 ) -> Result<Plan, NoMemory>
 where
     F: Drop,
-    requires estimate { IsEstimate (λ t test. F.pre ahead t test) (λ t test estimate. F.post ahead t test estimate) }
-    ensures planned { IfOk result (λ plan. IsPlanned problem.now.soc problem.now.limits (plan_value plan)) }
+    requires estimate { IsEstimate (λ t test. F.pre ahead t test)
+        (λ t test estimate. F.post ahead t test estimate) }
+    ensures planned { IfOk result
+        (λ plan. IsPlanned problem.now.soc problem.now.limits (plan_value plan)) }
     ensures right { IfOk result (λ plan. (content : Content) →
         IsRight problem.now.soc problem.now.limits (plan_value plan) content) }
-    ensures bound { IfOk result (λ plan. IsBound problem.now.soc problem.now.limits plan.bound.cycles) }
-    ensures elementary { IfOk result (λ plan. (n : ℕ) → IsElementary problem.now.soc problem.now.limits n →
-        n ≤ plan.bound.cycles) }
-    ensures only_plan { IfOk result (λ plan. (HasMoreOpen (job_of problem.now.soc problem.now.limits (plan_value plan))
-        problem.now.limits.budget → ⊥) → (other : PlanValue) → IsPlanned problem.now.soc problem.now.limits other →
-        other ≡ plan_value plan) }
+    ensures bound { IfOk result
+        (λ plan. IsBound problem.now.soc problem.now.limits plan.bound.cycles) }
+    ensures elementary { IfOk result (λ plan. (n : ℕ) →
+        IsElementary problem.now.soc problem.now.limits n → n ≤ plan.bound.cycles) }
+    ensures only_plan { IfOk result
+        (λ plan. (HasMoreOpen (job_of problem.now.soc problem.now.limits (plan_value plan))
+        problem.now.limits.budget → ⊥) → (other : PlanValue) →
+        IsPlanned problem.now.soc problem.now.limits other → other ≡ plan_value plan) }
     ensures only_buses { IfOk result (λ plan. (buses : List BusValue) →
-        AreSettledBuses (table_of problem.now.soc problem.now.limits) buses → buses ≡ (plan_value plan).buses) }
+        AreSettledBuses (table_of problem.now.soc problem.now.limits) buses →
+        buses ≡ (plan_value plan).buses) }
 {
     let plan = planned(alloc, problem, ahead)?;
     Ok(plan)
@@ -95,7 +105,8 @@ fn planned<F: Fn(&Table<'_>, usize) -> u64>(
 ) -> Result<Plan, NoMemory>
 where
     F: Drop,
-    requires estimate { IsEstimate (λ t test. F.pre ahead t test) (λ t test estimate. F.post ahead t test estimate) }
+    requires estimate { IsEstimate (λ t test. F.pre ahead t test)
+        (λ t test estimate. F.post ahead t test estimate) }
     ensures { IfOk result (λ plan. IsAnswer problem.now.soc problem.now.limits (plan_value plan)) }
 {
     // opened for what it keeps

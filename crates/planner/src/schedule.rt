@@ -33,7 +33,8 @@ fn starts_of(
 ) -> Result<Vec<(TestId, u64)>, NoMemory>
     requires long { length starts.now ≡ length order.now }
     requires inside { All (λ test. test < length (job_value job.now).tests) order.now }
-    ensures { IfOk result (λ listed. AreStartsOf (job_value job.now) order.now starts.now listed.items) }
+    ensures { IfOk result
+        (λ listed. AreStartsOf (job_value job.now) order.now starts.now listed.items) }
 {
     let mut listed = Vec::new(alloc);
     for place in 0..order.len() {
@@ -50,8 +51,10 @@ fn found_schedule<F: Fn(&Table<'_>, usize) -> u64>(
     search: &mut Search<'_, F>,
 ) -> Result<Schedule, NoMemory>
     requires job { search.old.job ≡ job_value job.now }
-    requires estimate { IsEstimate (λ t test. F.pre search.old.ahead t test) (λ t test estimate. F.post search.old.ahead t test estimate) }
-    ensures { IfOk result (λ s. IsFoundList (job_value job.now) search.old.budget s.starts.items s.cycles) }
+    requires estimate { IsEstimate (λ t test. F.pre search.old.ahead t test)
+        (λ t test estimate. F.post search.old.ahead t test estimate) }
+    ensures { IfOk result
+        (λ s. IsFoundList (job_value job.now) search.old.budget s.starts.items s.cycles) }
 {
     let found = search.run();
     let starts = starts_of(alloc, job, found.order, found.starts)?;
@@ -71,7 +74,8 @@ pub(crate) fn schedule_of<F: Fn(&Table<'_>, usize) -> u64>(
 where
     F: Drop,
     requires wiring { IsWiring problem.now.soc problem.now.limits wiring.now }
-    requires estimate { IsEstimate (λ t test. F.pre ahead t test) (λ t test estimate. F.post ahead t test estimate) }
+    requires estimate { IsEstimate (λ t test. F.pre ahead t test)
+        (λ t test estimate. F.post ahead t test estimate) }
     ensures { IfOk result (IsScheduled problem.now.soc problem.now.limits wiring.now) }
 {
     let job = job_with(alloc, problem, &wiring.buses, &wiring.wrappers)?;

@@ -57,9 +57,11 @@ fn push_mode(
 ) -> Result<(), NoMemory>
     requires place { place < length (soc_value soc.now).modules }
     requires places { AreBusPlaces places.now.entries (map bus_value buses.now) }
-    ensures { OnOk result ((core : ModuleValue) (pairs : List (ℕ × Bool)) → slice_get (soc_value soc.now).modules place ≡ Some core →
+    ensures { OnOk result ((core : ModuleValue) (pairs : List (ℕ × Bool)) →
+        slice_get (soc_value soc.now).modules place ≡ Some core →
         AreUsedModes (soc_value soc.now) (map bus_value buses.now) pairs to.old.items →
-        AreUsedModes (soc_value soc.now) (map bus_value buses.now) (pairs ++ mode_pair scan core) to.new.items) }
+        AreUsedModes (soc_value soc.now) (map bus_value buses.now) (pairs ++ mode_pair scan core)
+        to.new.items) }
 {
     let module = module_at(soc, place);
     if !uses_mode(module, scan) {
@@ -111,7 +113,8 @@ pub fn table_wrappers(
 ) -> Result<Vec<Wrapper>, NoMemory>
     requires chip { table.now.soc ≡ soc_value soc.now }
     requires widths { HaveWidths table.now (map bus_value buses.now) }
-    ensures { IfOk result (λ wrappers. AreTableWrappers (soc_value soc.now) (map bus_value buses.now) (map wrapper_value wrappers.items)) }
+    ensures { IfOk result (λ wrappers. AreTableWrappers (soc_value soc.now)
+        (map bus_value buses.now) (map wrapper_value wrappers.items)) }
 {
     let modes = used_modes(alloc, soc, buses)?;
     let mut wrappers = Vec::new(alloc);

@@ -15,7 +15,8 @@ use std::alloc::Global;
 
 /// The numbers of tests, each with a space before it.
 fn push_tests(to: &mut Vec<u8>, tests: &[TestId]) -> Result<(), NoMemory>
-    ensures { OnOk result (to.new.items ≡ to.old.items ++ spaced_numbers (flat_map test_numbers tests.now)) }
+    ensures { OnOk result
+        (to.new.items ≡ to.old.items ++ spaced_numbers (flat_map test_numbers tests.now)) }
 {
     for test in tests {
         push_spaced(to, test.module)?;
@@ -25,7 +26,8 @@ fn push_tests(to: &mut Vec<u8>, tests: &[TestId]) -> Result<(), NoMemory>
 }
 
 fn push_list(to: &mut Vec<u8>, list: &TestList) -> Result<(), NoMemory>
-    ensures { OnOk result (to.new.items ≡ to.old.items ++ line_text spelling (list_line (list_value list.now))) }
+    ensures { OnOk result
+        (to.new.items ≡ to.old.items ++ line_text spelling (list_line (list_value list.now))) }
 {
     match list {
         TestList::Turns { tests } => {
@@ -52,7 +54,8 @@ fn push_list(to: &mut Vec<u8>, list: &TestList) -> Result<(), NoMemory>
 
 /// The weights of lists, each behind the word `Of` and the place of its list.
 fn push_uses(to: &mut Vec<u8>, uses: &[(u64, u64)]) -> Result<(), NoMemory>
-    ensures { OnOk result (to.new.items ≡ to.old.items ++ spaced spelling (flat_map use_tokens uses.now)) }
+    ensures { OnOk result
+        (to.new.items ≡ to.old.items ++ spaced spelling (flat_map use_tokens uses.now)) }
 {
     for list in uses {
         extend(to, b" Of")?;
@@ -63,7 +66,8 @@ fn push_uses(to: &mut Vec<u8>, uses: &[(u64, u64)]) -> Result<(), NoMemory>
 }
 
 fn push_weights(to: &mut Vec<u8>, weights: &Weights) -> Result<(), NoMemory>
-    ensures { OnOk result (to.new.items ≡ to.old.items ++ spaced spelling (weight_tokens (weights_value weights.now))) }
+    ensures { OnOk result (to.new.items
+        ≡ to.old.items ++ spaced spelling (weight_tokens (weights_value weights.now))) }
 {
     push_spaced(to, weights.wire)?;
     push_numbers(to, weights.ranks.as_slice())?;
@@ -72,7 +76,8 @@ fn push_weights(to: &mut Vec<u8>, weights: &Weights) -> Result<(), NoMemory>
 
 /// Modules, each with its price, with a space before each number.
 fn push_prices(to: &mut Vec<u8>, prices: &[(u64, u64)]) -> Result<(), NoMemory>
-    ensures { OnOk result (to.new.items ≡ to.old.items ++ spaced_numbers (flat_map price_numbers prices.now)) }
+    ensures { OnOk result
+        (to.new.items ≡ to.old.items ++ spaced_numbers (flat_map price_numbers prices.now)) }
 {
     for price in prices {
         push_spaced(to, price.0)?;
@@ -82,7 +87,8 @@ fn push_prices(to: &mut Vec<u8>, prices: &[(u64, u64)]) -> Result<(), NoMemory>
 }
 
 fn push_pricing(to: &mut Vec<u8>, pricing: &Pricing) -> Result<(), NoMemory>
-    ensures { OnOk result (to.new.items ≡ to.old.items ++ spaced spelling (price_tokens (pricing_value pricing.now))) }
+    ensures { OnOk result (to.new.items
+        ≡ to.old.items ++ spaced spelling (price_tokens (pricing_value pricing.now))) }
 {
     push_spaced(to, pricing.grain)?;
     push_prices(to, pricing.prices.as_slice())?;
@@ -90,7 +96,8 @@ fn push_pricing(to: &mut Vec<u8>, pricing: &Pricing) -> Result<(), NoMemory>
 }
 
 fn push_node(to: &mut Vec<u8>, node: &Node) -> Result<(), NoMemory>
-    ensures { OnOk result (to.new.items ≡ to.old.items ++ line_text spelling (node_line (node_value node.now))) }
+    ensures { OnOk result
+        (to.new.items ≡ to.old.items ++ line_text spelling (node_line (node_value node.now))) }
 {
     match node {
         Node::Wide { rank, width } => {
@@ -121,7 +128,8 @@ fn push_node(to: &mut Vec<u8>, node: &Node) -> Result<(), NoMemory>
 }
 
 fn push_lists(to: &mut Vec<u8>, lists: &[TestList]) -> Result<(), NoMemory>
-    ensures { OnOk result (to.new.items ≡ to.old.items ++ text_of spelling (map list_line (map list_value lists.now))) }
+    ensures { OnOk result (to.new.items
+        ≡ to.old.items ++ text_of spelling (map list_line (map list_value lists.now))) }
 {
     for list in lists {
         push_list(to, list)?;
@@ -130,7 +138,8 @@ fn push_lists(to: &mut Vec<u8>, lists: &[TestList]) -> Result<(), NoMemory>
 }
 
 fn push_nodes(to: &mut Vec<u8>, nodes: &[Node]) -> Result<(), NoMemory>
-    ensures { OnOk result (to.new.items ≡ to.old.items ++ text_of spelling (map node_line (map node_value nodes.now))) }
+    ensures { OnOk result (to.new.items
+        ≡ to.old.items ++ text_of spelling (map node_line (map node_value nodes.now))) }
 {
     for node in nodes {
         push_node(to, node)?;

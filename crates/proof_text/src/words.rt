@@ -27,7 +27,8 @@ pub fn new_draft(alloc: Global) -> Draft
 }
 
 fn push_list(draft: &mut Draft, list: TestList) -> Result<(), Stop>
-    ensures ok { OnOk result (draft_value draft.new ≡ with_list (draft_value draft.old) (list_value list)) }
+    ensures ok { OnOk result
+        (draft_value draft.new ≡ with_list (draft_value draft.old) (list_value list)) }
     ensures err { OnErr result (result ≡ Err Stop.NoMemory) }
 {
     draft.lists.push(list)?;
@@ -35,7 +36,8 @@ fn push_list(draft: &mut Draft, list: TestList) -> Result<(), Stop>
 }
 
 fn push_node(draft: &mut Draft, node: Node) -> Result<(), Stop>
-    ensures ok { OnOk result (draft_value draft.new ≡ with_node (draft_value draft.old) (node_value node)) }
+    ensures ok { OnOk result
+        (draft_value draft.new ≡ with_node (draft_value draft.old) (node_value node)) }
     ensures err { OnErr result (result ≡ Err Stop.NoMemory) }
 {
     draft.nodes.push(node)?;
@@ -44,7 +46,8 @@ fn push_node(draft: &mut Draft, node: Node) -> Result<(), Stop>
 
 /// One more node with two branches, which wants a node for each. `NoMemory` too where their number passes its type.
 fn push_split(draft: &mut Draft, node: Node) -> Result<(), Stop>
-    ensures ok { OnOk result (draft_value draft.new ≡ with_branches (draft_value draft.old) (node_value node)) }
+    ensures ok { OnOk result
+        (draft_value draft.new ≡ with_branches (draft_value draft.old) (node_value node)) }
     ensures err { OnErr result (result ≡ Err Stop.NoMemory) }
 {
     let Some(wanted) = draft.wanted.checked_add(2) else {
@@ -64,7 +67,8 @@ fn push_twin(twins: &mut Vec<u64>, twin: u64) -> Result<(), Stop>
 }
 
 fn push_rank(weights: &mut Weights, weight: u64) -> Result<(), Stop>
-    ensures ok { OnOk result (weights_value weights.new ≡ with_rank (weights_value weights.old) weight) }
+    ensures ok { OnOk result
+        (weights_value weights.new ≡ with_rank (weights_value weights.old) weight) }
     ensures err { OnErr result (result ≡ Err Stop.NoMemory) }
 {
     weights.ranks.push(weight)?;
@@ -72,7 +76,8 @@ fn push_rank(weights: &mut Weights, weight: u64) -> Result<(), Stop>
 }
 
 fn push_price(pricing: &mut Pricing, number: u64, price: u64) -> Result<(), Stop>
-    ensures ok { OnOk result (pricing_value pricing.new ≡ with_price (pricing_value pricing.old) number price) }
+    ensures ok { OnOk result
+        (pricing_value pricing.new ≡ with_price (pricing_value pricing.old) number price) }
     ensures err { OnErr result (result ≡ Err Stop.NoMemory) }
 {
     pricing.prices.push((number, price))?;
@@ -103,7 +108,8 @@ fn go_on(part: &mut Part, next: Part) -> Result<(), Stop>
 
 /// A list begins where no node has begun, and fewer lists than there may be; else no text goes on so.
 fn begin_list(draft: &Draft, part: &mut Part, next: Part) -> Result<(), Stop>
-    ensures { Steps (begins_list (draft_value draft.now) (part_value next)) result part.new draft.now }
+    ensures { Steps (begins_list (draft_value draft.now) (part_value next)) result part.new
+        draft.now }
 {
     if !draft.nodes.is_empty() {
         return Err(Stop::Refused);
@@ -116,7 +122,8 @@ fn begin_list(draft: &Draft, part: &mut Part, next: Part) -> Result<(), Stop>
 
 /// A node begins where one is wanted; else no text goes on so.
 fn begin_node(draft: &mut Draft, part: &mut Part, next: Part) -> Result<(), Stop>
-    ensures { Steps (begins_node (draft_value draft.old) (part_value next)) result part.new draft.new }
+    ensures { Steps (begins_node (draft_value draft.old) (part_value next)) result part.new
+        draft.new }
 {
     if draft.wanted == 0 {
         return Err(Stop::Refused);
@@ -168,7 +175,8 @@ fn end_tests(
     tests: Vec<TestId>,
     key: Keyword,
 ) -> Result<(), Stop>
-    ensures { Steps (steps_key (draft_value draft.old) (in_tests kind tests.items) key) result part.new draft.new }
+    ensures { Steps (steps_key (draft_value draft.old) (in_tests kind tests.items) key) result
+        part.new draft.new }
 {
     if tests.is_empty() {
         return Err(Stop::Refused);
@@ -185,7 +193,8 @@ fn end_place(
     place: Node,
     key: Keyword,
 ) -> Result<(), Stop>
-    ensures { Steps (begins (with_branches (draft_value draft.old) (node_value place)) key) result part.new draft.new }
+    ensures { Steps (begins (with_branches (draft_value draft.old) (node_value place)) key) result
+        part.new draft.new }
 {
     push_split(draft, place)?;
     begin_part(alloc, draft, part, key)
@@ -215,7 +224,8 @@ fn step_leaf(
     leaf: Leaf,
     key: Keyword,
 ) -> Result<(), Stop>
-    ensures { Steps (steps_leaf (draft_value draft.old) (leaf_value leaf) key (uses key)) result part.new draft.new }
+    ensures { Steps (steps_leaf (draft_value draft.old) (leaf_value leaf) key (uses key)) result
+        part.new draft.new }
 {
     if is_use(key) {
         return go_on(part, Part::WantsList { leaf });
@@ -269,7 +279,8 @@ fn no_leaf(alloc: Global) -> Leaf {
 
 /// A keyword as the next word.
 fn step_key(alloc: Global, draft: &mut Draft, part: &mut Part, key: Keyword) -> Result<(), Stop>
-    ensures { Steps (steps_key (draft_value draft.old) (part_value part.old) key) result part.new draft.new }
+    ensures { Steps (steps_key (draft_value draft.old) (part_value part.old) key) result part.new
+        draft.new }
 {
     match part {
         Part::WantsProof => begin_proof(part, key),
@@ -361,7 +372,8 @@ fn step_test(
 
 /// The weight of a wire.
 fn step_wire(alloc: Global, draft: &Draft, part: &mut Part, wire: u64) -> Result<(), Stop>
-    ensures { Steps (steps_number (draft_value draft.now) wants_wire wire) result part.new draft.now }
+    ensures { Steps (steps_number (draft_value draft.now) wants_wire wire) result part.new
+        draft.now }
 {
     if wire > WEIGHT_MOST {
         return Err(Stop::Refused);
@@ -376,7 +388,8 @@ fn step_wire(alloc: Global, draft: &Draft, part: &mut Part, wire: u64) -> Result
 
 /// The cycles of a cell, of which there is one at least.
 fn step_grain(alloc: Global, draft: &Draft, part: &mut Part, grain: u64) -> Result<(), Stop>
-    ensures { Steps (steps_number (draft_value draft.now) wants_grain grain) result part.new draft.now }
+    ensures { Steps (steps_number (draft_value draft.now) wants_grain grain) result part.new
+        draft.now }
 {
     if grain < 1 {
         return Err(Stop::Refused);
@@ -397,7 +410,9 @@ fn step_price(
     number: u64,
     price: u64,
 ) -> Result<(), Stop>
-    ensures { Steps (steps_number (draft_value draft.now) (wants_price_of (pricing_value pricing) number) price) result part.new draft.now }
+    ensures { Steps
+        (steps_number (draft_value draft.now) (wants_price_of (pricing_value pricing) number) price)
+        result part.new draft.now }
 {
     if price > PRICE_MOST {
         return Err(Stop::Refused);
@@ -414,7 +429,9 @@ fn step_use(
     list: u64,
     weight: u64,
 ) -> Result<(), Stop>
-    ensures { Steps (steps_number (draft_value draft.now) (wants_weight (leaf_value leaf) list) weight) result part.new draft.now }
+    ensures { Steps
+        (steps_number (draft_value draft.now) (wants_weight (leaf_value leaf) list) weight) result
+        part.new draft.now }
 {
     if weight > WEIGHT_MOST {
         return Err(Stop::Refused);
@@ -425,7 +442,8 @@ fn step_use(
 
 /// A number as the next word. What goes on is changed where it stands.
 fn step_number(alloc: Global, draft: &mut Draft, part: &mut Part, n: u64) -> Result<(), Stop>
-    ensures { Steps (steps_number (draft_value draft.old) (part_value part.old) n) result part.new draft.new }
+    ensures { Steps (steps_number (draft_value draft.old) (part_value part.old) n) result part.new
+        draft.new }
 {
     match part {
         Part::WantsForm => step_form(draft, part, n),
@@ -515,7 +533,8 @@ pub fn step_token(
     part: &mut Part,
     token: Token<Keyword>,
 ) -> Result<(), Stop>
-    ensures { Steps (steps (at (draft_value draft.old) (part_value part.old)) token) result part.new draft.new }
+    ensures { Steps (steps (at (draft_value draft.old) (part_value part.old)) token) result part.new
+        draft.new }
 {
     match token {
         Token::Key(key) => step_key(alloc, draft, part, key),

@@ -79,7 +79,8 @@ fn push_bus(
     tests: &[PlacedTest],
 ) -> Result<(), NoMemory>
     requires { AreTests cycles tests.now }
-    ensures { OnOk result (text.new.items ≡ text.old.items ++ bus_line cycles tests.now place width) }
+    ensures { OnOk result
+        (text.new.items ≡ text.old.items ++ bus_line cycles tests.now place width) }
 {
     let busy = cycles_over(tests, place);
     let idle = cycles - busy;

@@ -105,11 +105,15 @@ fn push_link(
 ) -> Result<Option<PlacedTest>, NoMemory>
     requires place { test.now.place < length (soc_value soc.now).modules }
     requires places { StandIn (soc_value soc.now).modules tests.now }
-    ensures line { OnOk result (text.new.items ≡ text.old.items ++ last_line test.now
-        (the_held (soc_value soc.now) (limits_value limits.now) (λ c. step_power c 0 steps.now) tests.now test.now)) }
-    ensures next { IfOk result (λ next. next ≡ the_test_of
-        (the_held (soc_value soc.now) (limits_value limits.now) (λ c. step_power c 0 steps.now) tests.now test.now)) }
-    ensures there { IfOk result (λ next. IfSome next (λ t. t.place < length (soc_value soc.now).modules)) }
+    ensures line { OnOk result (text.new.items
+        ≡ text.old.items
+        ++ last_line test.now (the_held (soc_value soc.now) (limits_value limits.now)
+        (λ c. step_power c 0 steps.now) tests.now test.now)) }
+    ensures next { IfOk result (λ next. next
+        ≡ the_test_of (the_held (soc_value soc.now) (limits_value limits.now)
+        (λ c. step_power c 0 steps.now) tests.now test.now)) }
+    ensures there { IfOk result
+        (λ next. IfSome next (λ t. t.place < length (soc_value soc.now).modules)) }
 {
     let held = held(soc, limits, tests, steps, test);
     push_last(text, test, held)?;
@@ -127,8 +131,10 @@ pub fn push_chain(
     cycles: u64,
 ) -> Result<(), NoMemory>
     requires { StandIn (soc_value soc.now).modules tests.now }
-    ensures { OnOk result (text.new.items ≡ text.old.items
-        ++ chain_text (soc_value soc.now) (limits_value limits.now) (λ c. step_power c 0 steps.now) tests.now cycles) }
+    ensures { OnOk result (text.new.items
+        ≡ text.old.items
+        ++ chain_text (soc_value soc.now) (limits_value limits.now)
+        (λ c. step_power c 0 steps.now) tests.now cycles) }
 {
     let mut next = last_test(tests, cycles);
     for _ in 0..cycles {

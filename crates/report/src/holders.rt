@@ -105,7 +105,8 @@ fn pass_limit(limit: Option<u64>, one: u64, other: u64) -> bool
 /// Whether the power at the cycle before a test and its first power together are more than the limit, where tests draw the load with
 /// these steps.
 fn is_too_much(limits: &Limits, steps: &[(u64, u64)], test: &PlacedTest) -> bool
-    ensures { result ≡ the_is_too_much (limits_value limits.now) (λ c. the_step_power c 0 steps.now) test.now }
+    ensures { result
+        ≡ the_is_too_much (limits_value limits.now) (λ c. the_step_power c 0 steps.now) test.now }
 {
     let drawn = step_power(test.start.saturating_sub(1), steps);
     pass_limit(limits.power, drawn, first_power(limits, test))
@@ -122,8 +123,9 @@ fn keeps_out(
 ) -> bool
     requires place { test.now.place < length (soc_value soc.now).modules }
     requires other { other.now.place < length (soc_value soc.now).modules }
-    ensures { result ≡ the_keeps_out (soc_value soc.now) (limits_value limits.now) (λ c. the_step_power c 0 steps.now)
-        kind test.now other.now }
+    ensures { result
+        ≡ the_keeps_out (soc_value soc.now) (limits_value limits.now)
+        (λ c. the_step_power c 0 steps.now) kind test.now other.now }
 {
     match kind {
         Hold::Bus => share_bus(test.bus, other.bus),
@@ -145,8 +147,9 @@ fn is_holder(
 ) -> bool
     requires place { test.now.place < length (soc_value soc.now).modules }
     requires other { other.now.place < length (soc_value soc.now).modules }
-    ensures { result ≡ the_is_holder (soc_value soc.now) (limits_value limits.now) (λ c. the_step_power c 0 steps.now)
-        kind test.now other.now }
+    ensures { result
+        ≡ the_is_holder (soc_value soc.now) (limits_value limits.now)
+        (λ c. the_step_power c 0 steps.now) kind test.now other.now }
 {
     if other.end != test.start {
         return false;
@@ -166,8 +169,9 @@ fn holder(
 ) -> Option<PlacedTest>
     requires place { test.now.place < length (soc_value soc.now).modules }
     requires places { StandIn (soc_value soc.now).modules tests.now }
-    ensures { result ≡ the_holder (soc_value soc.now) (limits_value limits.now) (λ c. the_step_power c 0 steps.now)
-        tests.now kind test.now }
+    ensures { result
+        ≡ the_holder (soc_value soc.now) (limits_value limits.now)
+        (λ c. the_step_power c 0 steps.now) tests.now kind test.now }
 {
     for other in tests {
         if is_holder(soc, limits, steps, kind, test, other) {
@@ -188,7 +192,9 @@ pub fn held(
 ) -> Option<(PlacedTest, Hold)>
     requires place { test.now.place < length (soc_value soc.now).modules }
     requires places { StandIn (soc_value soc.now).modules tests.now }
-    ensures { result ≡ the_held (soc_value soc.now) (limits_value limits.now) (λ c. the_step_power c 0 steps.now) tests.now test.now }
+    ensures { result
+        ≡ the_held (soc_value soc.now) (limits_value limits.now) (λ c. the_step_power c 0 steps.now)
+        tests.now test.now }
 {
     for kind in [
         Hold::Bus,

@@ -16,9 +16,11 @@ ghost use Rattle.report.specs.Peaks.{peak};
 /// earlier. So the lines of the tests that end last go back to one that nothing held.
 pub fn good_plans_report_right()
     ensures peak { (load : ℕ → ℕ) (cycles : ℕ) → IsPeak load cycles (peak load cycles) }
-    ensures shared { (soc : SocValue) (limits : LimitsValue) (plan : PlanValue) (bus : ℕ) → IsSoundChip soc →
-        IsGood soc limits plan → IsShared (placed_tests soc plan) bus plan.cycles }
-    ensures held { (soc : SocValue) (limits : LimitsValue) (plan : PlanValue) (load : ℕ → ℕ) (t u : PlacedTest) (kind : Hold) →
+    ensures shared { (soc : SocValue) (limits : LimitsValue) (plan : PlanValue) (bus : ℕ) →
+        IsSoundChip soc → IsGood soc limits plan →
+        IsShared (placed_tests soc plan) bus plan.cycles }
+    ensures held { (soc : SocValue) (limits : LimitsValue) (plan : PlanValue) (load : ℕ → ℕ)
+        (t u : PlacedTest) (kind : Hold) →
         held soc limits load (placed_tests soc plan) t ≡ Some (u, kind) →
         IsHeldBy soc limits load (placed_tests soc plan) t u kind }
     ensures whole { (soc : SocValue) (limits : LimitsValue) (plan : PlanValue) (load : ℕ → ℕ) →

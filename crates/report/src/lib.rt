@@ -55,8 +55,10 @@ fn push_plan(
     requires few { sum ws.now < 2 ^ 64 }
     requires fits { busy_area ws.now tests.now < 2 ^ 128 }
     requires tests { AreTests plan.now.cycles tests.now }
-    ensures { OnOk result (text.new.items ≡ text.old.items
-        ++ plan_lines (limits_value limits.now) (plan_value plan.now) ws.now tests.now (peak_after no_power steps.now)) }
+    ensures { OnOk result (text.new.items
+        ≡ text.old.items
+        ++ plan_lines (limits_value limits.now) (plan_value plan.now) ws.now tests.now
+        (peak_after no_power steps.now)) }
 {
     push_cycles(text, plan)?;
     push_wires(text, limits.wires, plan.cycles, ws, tests)?;
@@ -79,8 +81,10 @@ fn push_timed(
     requires good { IsGood (soc_value soc.now) (limits_value limits.now) (plan_value plan.now) }
     requires widths { ws.now ≡ widths (plan_value plan.now) }
     requires tests { tests.now ≡ placed_tests (soc_value soc.now) (plan_value plan.now) }
-    ensures { OnOk result (text.new.items ≡ text.old.items
-        ++ module_lines limits.now.wires (plan_value plan.now) tests.now 0 (soc_value soc.now).modules) }
+    ensures { OnOk result (text.new.items
+        ≡ text.old.items
+        ++ module_lines limits.now.wires (plan_value plan.now) tests.now 0
+        (soc_value soc.now).modules) }
 {
     let table = WidthTable::new(alloc, soc, limits.wires)?;
     let pushed = push_modules(text, soc, &table, plan, ws, tests);
@@ -100,7 +104,8 @@ fn print_placed(
     requires sound_limits { IsSoundLimits (soc_value soc.now) (limits_value limits.now) }
     requires good { IsGood (soc_value soc.now) (limits_value limits.now) (plan_value plan.now) }
     requires tests { tests.now ≡ placed_tests (soc_value soc.now) (plan_value plan.now) }
-    ensures { IfOk result (λ text. text.items ≡ report_text (soc_value soc.now) (limits_value limits.now) (plan_value plan.now)) }
+    ensures { IfOk result (λ text. text.items
+        ≡ report_text (soc_value soc.now) (limits_value limits.now) (plan_value plan.now)) }
 {
     let ws = widths_of(alloc, plan)?;
     let steps = power_steps(alloc, limits, tests)?;
@@ -124,7 +129,8 @@ pub fn print_report(
 ) -> Result<Vec<u8>, NoMemory>
     requires sound_limits { IsSoundLimits placed.now.soc (limits_value limits.now) }
     requires good { IsGood placed.now.soc (limits_value limits.now) placed.now.plan }
-    ensures text { IfOk result (λ text. text.items ≡ report_text placed.now.soc (limits_value limits.now) placed.now.plan) }
+    ensures text { IfOk result (λ text. text.items
+        ≡ report_text placed.now.soc (limits_value limits.now) placed.now.plan) }
 {
     print_placed(alloc, placed.soc, limits, placed.plan, placed.tests())
 }

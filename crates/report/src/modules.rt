@@ -94,7 +94,8 @@ fn push_wide(
 ) -> Result<(), NoMemory>
     requires place { place < places_of table.now }
     requires within { IfSome width (λ found. (1 ≤ found) × (found ≤ table.now.wires)) }
-    ensures { OnOk result (text.new.items ≡ text.old.items ++ wide_text (time_of table.now place) width) }
+    ensures { OnOk result
+        (text.new.items ≡ text.old.items ++ wide_text (time_of table.now place) width) }
 {
     match width {
         Some(found) => {
@@ -152,8 +153,10 @@ fn push_wired(
     requires widths { ws.now ≡ widths (plan_value plan.now) }
     requires few { sum ws.now ≤ table.now.wires }
     requires short { sum_by the_cycles tests.now ≤ 10 ^ 18 }
-    ensures { OnOk result (text.new.items ≡ text.old.items
-        ++ line_if_wired table.now.wires (plan_value plan.now) tests.now place (module_value «module».now)) }
+    ensures { OnOk result (text.new.items
+        ≡ text.old.items
+        ++ line_if_wired table.now.wires (plan_value plan.now) tests.now place
+        (module_value «module».now)) }
 {
     if !has_tam_test(module) {
         return Ok(());
@@ -177,8 +180,10 @@ pub fn push_modules(
     requires widths { ws.now ≡ widths (plan_value plan.now) }
     requires few { sum ws.now ≤ table.now.wires }
     requires short { sum_by the_cycles tests.now ≤ 10 ^ 18 }
-    ensures { OnOk result (text.new.items ≡ text.old.items
-        ++ module_lines table.now.wires (plan_value plan.now) tests.now 0 (soc_value soc.now).modules) }
+    ensures { OnOk result (text.new.items
+        ≡ text.old.items
+        ++ module_lines table.now.wires (plan_value plan.now) tests.now 0
+        (soc_value soc.now).modules) }
 {
     for place in 0..table.places() {
         push_wired(text, table, plan, ws, tests, place, module_at(soc, place))?;

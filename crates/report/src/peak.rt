@@ -51,7 +51,8 @@ pub fn push_power(
     steps: &[(u64, u64)],
     limit: Option<u64>,
 ) -> Result<(), NoMemory>
-    ensures { OnOk result (text.new.items ≡ text.old.items ++ peak_text (peak_after no_power steps.now) limit) }
+    ensures { OnOk result
+        (text.new.items ≡ text.old.items ++ peak_text (peak_after no_power steps.now) limit) }
 {
     let peak = peak_of(steps);
     push_entry(text, b"power ", peak.power)?;

@@ -134,7 +134,8 @@ pub fn push_wires(
 ) -> Result<(), NoMemory>
     requires few { sum ws.now < 2 ^ 64 }
     requires fits { the_busy_area ws.now tests.now < 2 ^ 128 }
-    ensures { OnOk result (text.new.items ≡ text.old.items ++ wires_line wires cycles ws.now tests.now) }
+    ensures { OnOk result
+        (text.new.items ≡ text.old.items ++ wires_line wires cycles ws.now tests.now) }
 {
     push_entry(text, b"wires ", wires)?;
     push_entry(text, b" used ", wires_used(ws))?;

@@ -15,7 +15,8 @@ fn is_crowded(load: u64, free: u64) -> bool
 /// Whether more is drawn than is free from each of the four points from a place on.
 fn are_crowded(points: &[Point], place: usize, free: u64) -> bool
     requires { place + 4 ≤ length points.now }
-    ensures { result ≡ true → (k : ℕ) → place ≤ k → k < place + 4 → free < (slice_index_or points.now k no_point).load }
+    ensures { result ≡ true → (k : ℕ) → place ≤ k → k < place + 4 →
+        free < (slice_index_or points.now k no_point).load }
 {
     if points[place].load <= free {
         return false;
@@ -37,7 +38,8 @@ fn crowd_from(points: &[Point], from: usize, free: u64) -> usize
     requires { from ≤ length points.now }
     ensures from { from ≤ result }
     ensures bound { result ≤ length points.now }
-    ensures crowded { (k : ℕ) → from ≤ k → k < result → free < (slice_index_or points.now k no_point).load }
+    ensures crowded { (k : ℕ) → from ≤ k → k < result →
+        free < (slice_index_or points.now k no_point).load }
 {
     let mut place = from;
     while points.len() - place >= 4 {
@@ -54,8 +56,10 @@ fn crowd_end(points: &[Point], from: usize, free: u64) -> usize
     requires { from ≤ length points.now }
     ensures from { from ≤ result }
     ensures bound { result ≤ length points.now }
-    ensures crowded { (k : ℕ) → from ≤ k → k < result → free < (slice_index_or points.now k no_point).load }
-    ensures end { result < length points.now → (slice_index_or points.now result no_point).load ≤ free }
+    ensures crowded { (k : ℕ) → from ≤ k → k < result →
+        free < (slice_index_or points.now k no_point).load }
+    ensures end { result < length points.now →
+        (slice_index_or points.now result no_point).load ≤ free }
 {
     let first = crowd_from(points, from, free);
     for place in first..points.len() {
@@ -72,9 +76,12 @@ fn last_crowd(points: &[Point], from: usize, to: usize, free: u64) -> Option<usi
     requires { to ≤ length points.now }
     ensures from { IfSome result (λ crowd. from ≤ crowd) }
     ensures to { IfSome result (λ crowd. crowd < to) }
-    ensures crowded { IfSome result (λ crowd. free < (slice_index_or points.now crowd no_point).load) }
-    ensures behind { IfSome result (λ crowd. (k : ℕ) → crowd < k → k < to → (slice_index_or points.now k no_point).load ≤ free) }
-    ensures none { IfNone result ((k : ℕ) → from ≤ k → k < to → (slice_index_or points.now k no_point).load ≤ free) }
+    ensures crowded { IfSome result
+        (λ crowd. free < (slice_index_or points.now crowd no_point).load) }
+    ensures behind { IfSome result (λ crowd. (k : ℕ) → crowd < k → k < to →
+        (slice_index_or points.now k no_point).load ≤ free) }
+    ensures none { IfNone result
+        ((k : ℕ) → from ≤ k → k < to → (slice_index_or points.now k no_point).load ≤ free) }
 {
     let mut place = to;
     while place > from {
@@ -104,9 +111,10 @@ pub fn after_crowds(
     requires profile { (load : ℕ → ℕ) × IsEndedProfile load points.now last }
     ensures from { from ≤ result }
     ensures most { (result ≡ from) ⊎ (result ≤ last) }
-    ensures free { (load : ℕ → ℕ) → IsEndedProfile load points.now last → IsFreeFor load free width result }
-    ensures least { (load : ℕ → ℕ) → IsEndedProfile load points.now last → (other : ℕ) → from ≤ other → IsFreeFor load free width other →
-        result ≤ other }
+    ensures free { (load : ℕ → ℕ) → IsEndedProfile load points.now last →
+        IsFreeFor load free width result }
+    ensures least { (load : ℕ → ℕ) → IsEndedProfile load points.now last → (other : ℕ) →
+        from ≤ other → IsFreeFor load free width other → result ≤ other }
 {
     let mut place = places_before_near(points, near, from + 1);
     let mut calm = place;
@@ -139,7 +147,8 @@ pub fn after_crowds(
 pub fn calm_end(points: &[Point], free: u64, last: u64) -> u64
     requires profile { (load : ℕ → ℕ) × IsEndedProfile load points.now last }
     ensures most { result ≤ last }
-    ensures calm { (load : ℕ → ℕ) → IsEndedProfile load points.now last → (c : ℕ) → result ≤ c → load c ≤ free }
+    ensures calm { (load : ℕ → ℕ) → IsEndedProfile load points.now last → (c : ℕ) → result ≤ c →
+        load c ≤ free }
 {
     let mut calm: u64 = last;
     let mut place = points.len();

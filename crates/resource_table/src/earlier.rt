@@ -16,7 +16,8 @@ pub fn all_before(
 ) -> Result<Vec<Neighbours>, NoMemory>
     requires { All (λ (p : ℕ × ℕ). (p.0 < count) × (p.1 < count)) pairs.now }
     ensures long { IfOk result (λ lists. length lists.items ≡ count) }
-    ensures lists { IfOk result (λ lists. (i : ℕ) → i < count → slice_index_or (map listed lists.items) i [] ≡ tests_before i pairs.now) }
+    ensures lists { IfOk result (λ lists. (i : ℕ) → i < count →
+        slice_index_or (map listed lists.items) i [] ≡ tests_before i pairs.now) }
 {
     let lists = all_listed(alloc, count, pairs)?;
     Ok(lists)

@@ -42,7 +42,9 @@ fn reaching(count: usize, place: Option<usize>) -> Option<usize>
 
 /// How many timelines of a kind it takes to have each that a test takes; None where that is too great.
 fn count_timelines(tests: &[JobTest], kind: Kind) -> Option<usize>
-    ensures { IfSome result (λ count. All (λ (t : JobTest). IfSome (timeline_of_value kind (test_value t)) (λ k. k < count)) tests.now) }
+    ensures { IfSome result (λ count. All
+        (λ (t : JobTest). IfSome (timeline_of_value kind (test_value t)) (λ k. k < count))
+        tests.now) }
 {
     let mut count = 0;
     for test in tests {
@@ -70,10 +72,13 @@ fn count_takers(
     kind: Kind,
     count: usize,
 ) -> Result<Vec<usize>, NoMemory>
-    requires { All (λ (t : JobTest). IfSome (timeline_of_value kind (test_value t)) (λ k. k < count)) tests.now }
+    requires { All
+        (λ (t : JobTest). IfSome (timeline_of_value kind (test_value t)) (λ k. k < count))
+        tests.now }
     ensures long { IfOk result (λ counts. length counts.items ≡ count) }
     ensures counts { IfOk result (λ counts. (k : ℕ) → k < count →
-        slice_index_or counts.items k 0 ≡ sum_by (λ (t : JobTest). if takes kind k (test_value t) then 1 else 0) tests.now) }
+        slice_index_or counts.items k 0
+        ≡ sum_by (λ (t : JobTest). if takes kind k (test_value t) then 1 else 0) tests.now) }
 {
     let mut counts = vec![in alloc; 0; count]?;
     for test in tests {
@@ -94,8 +99,10 @@ fn empty_timeline(alloc: Global, room: usize) -> Result<Timeline, NoMemory>
 /// Empty timelines, one for each number of `rooms`, with room for this number of times.
 fn timelines_of_rooms(alloc: Global, rooms: &[usize]) -> Result<Vec<Timeline>, NoMemory>
     ensures long { IfOk result (λ lines. length lines.items ≡ length rooms.now) }
-    ensures empty { IfOk result (λ lines. (k : ℕ) (line : Timeline) → slice_get lines.items k ≡ Some line → line.spans.items ≡ []) }
-    ensures room { IfOk result (λ lines. (k : ℕ) (line : Timeline) → slice_get lines.items k ≡ Some line →
+    ensures empty { IfOk result (λ lines. (k : ℕ) (line : Timeline) →
+        slice_get lines.items k ≡ Some line → line.spans.items ≡ []) }
+    ensures room { IfOk result
+        (λ lines. (k : ℕ) (line : Timeline) → slice_get lines.items k ≡ Some line →
         slice_index_or rooms.now k 0 ≤ vec_capacity line.spans) }
 {
     let mut lines = Vec::new(alloc);

@@ -21,7 +21,8 @@ impl<J> TableOf<J> {
     pub fn place<'t>(&'t mut self, test: usize, start: u64) -> FrameOf<'t, J>
         requires { MayPlace self.old.job self.old.placed test start }
         ensures same_reference { name_of result ≡ self.entry.ghost_name }
-        ensures table { table_of result ≡ record self.old { placed = self.old.placed ++ at_start test start ∷ [] } }
+        ensures table { table_of result
+            ≡ record self.old { placed = self.old.placed ++ at_start test start ∷ [] } }
         ensures before { before_of result ≡ length self.old.placed }
         ensures sound { IsSoundTable (table_of result) }
     {

@@ -104,7 +104,8 @@ fn take_back(history: &mut History)
     ensures places { ArePlaces history.new }
     ensures changes { length history.new.log.items + 1 ≡ length history.old.log.items }
     ensures long { length history.new.values.items ≡ length history.old.values.items }
-    ensures same { (n : ℕ) → n < length history.old.log.items → at_change history.new n ≡ at_change history.old n }
+    ensures same { (n : ℕ) → n < length history.old.log.items →
+        at_change history.new n ≡ at_change history.old n }
     ensures marks { history.new.marks ≡ history.old.marks }
 {
     if let Some(last) = history.log.pop() {
@@ -130,7 +131,8 @@ pub fn undo_to_mark(history: &mut History)
 
 /// Takes all changes and marks away, and leaves no note.
 pub fn forget_notes(history: &mut History)
-    ensures values { history.new.values.items ≡ replicate (length history.old.values.items) no_note }
+    ensures values { history.new.values.items
+        ≡ replicate (length history.old.values.items) no_note }
     ensures marks { history.new.marks.items ≡ [] }
     ensures history { IsHistory history.new }
     ensures room { vec_capacity history.new.marks ≡ vec_capacity history.old.marks }

@@ -72,7 +72,8 @@ pub fn forget_end(latest: &mut LatestEnds, place: Option<usize>)
 
 /// Whether the children of the module at a place are known to have ended by a cycle.
 pub fn have_ended(latest: &LatestEnds, place: usize, cycle: u64) -> bool
-    ensures { result ≡ true → (end : ℕ) × (slice_get latest.now.ends.items place ≡ Some end) × (end ≤ cycle) }
+    ensures { result ≡ true →
+        (end : ℕ) × (slice_get latest.now.ends.items place ≡ Some end) × (end ≤ cycle) }
 {
     let Some(end) = latest.ends.get(place) else {
         return false;

@@ -34,8 +34,8 @@ fn mark_at(draws: &[Draw], from: usize, start: u64, at: usize) -> u64
 /// Adds a mark at a cycle if its point stands at a place, and tells whether it does.
 fn add_standing_mark(points: &mut Vec<Point>, place: usize, cycle: u64) -> bool
     requires fits { all_uses points.old.items + 1 < 2 ^ 64 }
-    ensures added { result ≡ true → (held : List Draw) (cycles : List ℕ) → ArePoints held cycles points.old.items →
-        ArePoints held (cycle ∷ cycles) points.new.items }
+    ensures added { result ≡ true → (held : List Draw) (cycles : List ℕ) →
+        ArePoints held cycles points.old.items → ArePoints held (cycle ∷ cycles) points.new.items }
     ensures same { result ≡ false → points.new.items ≡ points.old.items }
     ensures missing { result ≡ false → place < length points.old.items →
         (slice_index_or points.old.items place no_point).cycle ≡ cycle → ⊥ }
@@ -54,7 +54,8 @@ fn put_mark(points: &mut Vec<Point>, place: usize, cycle: u64) -> usize
     requires room { length points.old.items < vec_capacity points.old }
     requires fits { all_uses points.old.items + 1 < 2 ^ 64 }
     requires place { place ≤ length points.old.items }
-    requires parts { IsPartitionPoint (λ (p : Point). p.cycle < cycle) (λ (p : Point). cycle ≤ p.cycle) points.old.items place }
+    requires parts { IsPartitionPoint (λ (p : Point). p.cycle < cycle)
+        (λ (p : Point). cycle ≤ p.cycle) points.old.items place }
     ensures points { HaveMarkMore cycle points.old.items points.new.items }
     ensures capacity { vec_capacity points.new ≡ vec_capacity points.old }
 {
@@ -84,8 +85,8 @@ fn add_mark(points: &mut Vec<Point>, near: usize, cycle: u64) -> usize
 fn remove_mark(points: &mut Vec<Point>, near: usize, cycle: u64) -> usize
     requires ordered { IsNonDecreasingBy (λ (p : Point). p.cycle) points.old.items }
     requires there { 1 ≤ sum_by (uses_at cycle) points.old.items }
-    ensures points { (held : List Draw) (cycles : List ℕ) → ArePoints held (cycle ∷ cycles) points.old.items →
-        ArePoints held cycles points.new.items }
+    ensures points { (held : List Draw) (cycles : List ℕ) →
+        ArePoints held (cycle ∷ cycles) points.old.items → ArePoints held cycles points.new.items }
     ensures capacity { vec_capacity points.new ≡ vec_capacity points.old }
 {
     let mut place = places_before_near(points, near, cycle);
@@ -171,9 +172,10 @@ fn open_gap(
 /// as they are. Its place, which is sought from a near one, is answered, and the place of the next spare point.
 fn add_next_mark(points: &mut Vec<Point>, near: usize, spare: usize, cycle: u64) -> (usize, usize)
     requires room { all_uses points.old.items + 1 ≤ vec_capacity points.old }
-    requires points { (held : List Draw) × (cycles : List ℕ) × ArePoints held cycles points.old.items }
-    ensures points { (held : List Draw) (cycles : List ℕ) → AreMarked held cycles → ArePoints held cycles points.old.items →
-        ArePoints held (cycle ∷ cycles) points.new.items }
+    requires points { (held : List Draw) × (cycles : List ℕ)
+        × ArePoints held cycles points.old.items }
+    ensures points { (held : List Draw) (cycles : List ℕ) → AreMarked held cycles →
+        ArePoints held cycles points.old.items → ArePoints held (cycle ∷ cycles) points.new.items }
     ensures capacity { vec_capacity points.new ≡ vec_capacity points.old }
 {
     let place = places_before_near(points, near, cycle);
@@ -194,11 +196,14 @@ fn add_next_mark(points: &mut Vec<Point>, near: usize, spare: usize, cycle: u64)
 /// many are left is answered, and a place near to the next one.
 fn add_standing(points: &mut Vec<Point>, draws: &[Draw], from: usize, start: u64) -> (usize, usize)
     requires from { from ≤ length draws.now }
-    requires room { all_uses points.old.items + (length draws.now - from + 1) ≤ vec_capacity points.old }
-    requires points { (held : List Draw) × (cycles : List ℕ) × ArePoints held cycles points.old.items }
+    requires room { all_uses points.old.items + (length draws.now - from + 1)
+        ≤ vec_capacity points.old }
+    requires points { (held : List Draw) × (cycles : List ℕ)
+        × ArePoints held cycles points.old.items }
     ensures left { result.0 ≤ length draws.now - from + 1 }
     ensures points { (held : List Draw) (cycles : List ℕ) → ArePoints held cycles points.old.items →
-        ArePoints held (drop result.0 (marks_from start (drop from draws.now)) ++ cycles) points.new.items }
+        ArePoints held (drop result.0 (marks_from start (drop from draws.now)) ++ cycles)
+        points.new.items }
     ensures capacity { vec_capacity points.new ≡ vec_capacity points.old }
 {
     let mut left = draws.len() - from + 1;
@@ -228,9 +233,11 @@ fn add_first(
     requires first { first ≤ length draws.now - from + 1 }
     requires room { all_uses points.old.items + first ≤ vec_capacity points.old }
     requires points { (held : List Draw) × (cycles : List ℕ) × AreMarked held cycles
-        × ArePoints held (drop first (marks_from start (drop from draws.now)) ++ cycles) points.old.items }
+        × ArePoints held (drop first (marks_from start (drop from draws.now)) ++ cycles)
+        points.old.items }
     ensures points { (held : List Draw) (cycles : List ℕ) → AreMarked held cycles →
-        ArePoints held (drop first (marks_from start (drop from draws.now)) ++ cycles) points.old.items →
+        ArePoints held (drop first (marks_from start (drop from draws.now)) ++ cycles)
+        points.old.items →
         ArePoints held (marks_from start (drop from draws.now) ++ cycles) points.new.items }
     ensures capacity { vec_capacity points.new ≡ vec_capacity points.old }
 {
@@ -250,9 +257,12 @@ fn add_first(
 /// of its start is answered.
 pub fn add_marks(points: &mut Vec<Point>, draws: &[Draw], from: usize, start: u64) -> usize
     requires from { from ≤ length draws.now }
-    requires room { all_uses points.old.items + (length draws.now - from + 1) ≤ vec_capacity points.old }
-    requires points { (held : List Draw) × (cycles : List ℕ) × AreMarked held cycles × ArePoints held cycles points.old.items }
-    ensures points { (held : List Draw) (cycles : List ℕ) → AreMarked held cycles → ArePoints held cycles points.old.items →
+    requires room { all_uses points.old.items + (length draws.now - from + 1)
+        ≤ vec_capacity points.old }
+    requires points { (held : List Draw) × (cycles : List ℕ) × AreMarked held cycles
+        × ArePoints held cycles points.old.items }
+    ensures points { (held : List Draw) (cycles : List ℕ) → AreMarked held cycles →
+        ArePoints held cycles points.old.items →
         ArePoints held (marks_from start (drop from draws.now) ++ cycles) points.new.items }
     ensures capacity { vec_capacity points.new ≡ vec_capacity points.old }
 {
@@ -269,7 +279,8 @@ pub fn remove_marks(points: &mut Vec<Point>, first: usize, draws: &[Draw], from:
     requires points { (held : List Draw) × (cycles : List ℕ)
         × ArePoints held (marks_from start (drop from draws.now) ++ cycles) points.old.items }
     ensures points { (held : List Draw) (cycles : List ℕ) →
-        ArePoints held (marks_from start (drop from draws.now) ++ cycles) points.old.items → ArePoints held cycles points.new.items }
+        ArePoints held (marks_from start (drop from draws.now) ++ cycles) points.old.items →
+        ArePoints held cycles points.new.items }
     ensures capacity { vec_capacity points.new ≡ vec_capacity points.old }
 {
     let count = draws.len() - from + 1;

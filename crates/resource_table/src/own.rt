@@ -58,7 +58,8 @@ impl<J> OwnTable<J> {
         requires lengths { length lengths.now ≡ length self.old.job.tests }
         requires room { All (λ bus. IfSome bus (λ k. k < WIRES_MOST)) buses.now }
         requires sound { IsSoundJob (job_over buses.now lengths.now self.old.job) }
-        ensures empty { self.new ≡ record { job = job_over buses.now lengths.now self.old.job; placed = [] } }
+        ensures empty { self.new
+            ≡ record { job = job_over buses.now lengths.now self.old.job; placed = [] } }
         ensures sound { IsSoundTable self.new }
     {
         self.table.restart(buses, lengths);

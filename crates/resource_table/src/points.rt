@@ -18,8 +18,10 @@ pub struct Point {
 
 /// Whether the point at a place is there and stands before a cycle.
 fn is_early(points: &[Point], place: usize, cycle: u64) -> bool
-    ensures early { result ≡ true → (place < length points.now) × ((slice_index_or points.now place no_point).cycle < cycle) }
-    ensures late { result ≡ false → place < length points.now → cycle ≤ (slice_index_or points.now place no_point).cycle }
+    ensures early { result ≡ true →
+        (place < length points.now) × ((slice_index_or points.now place no_point).cycle < cycle) }
+    ensures late { result ≡ false → place < length points.now →
+        cycle ≤ (slice_index_or points.now place no_point).cycle }
 {
     place < points.len() && points[place].cycle < cycle
 }
@@ -27,8 +29,10 @@ fn is_early(points: &[Point], place: usize, cycle: u64) -> bool
 /// Whether the point before a place is there and doesn't stand before a cycle.
 fn is_passed(points: &[Point], place: usize, cycle: u64) -> bool
     requires { place ≤ length points.now }
-    ensures passed { result ≡ true → (0 < place) × (cycle ≤ (slice_index_or points.now (place - 1) no_point).cycle) }
-    ensures ahead { result ≡ false → 0 < place → (slice_index_or points.now (place - 1) no_point).cycle < cycle }
+    ensures passed { result ≡ true →
+        (0 < place) × (cycle ≤ (slice_index_or points.now (place - 1) no_point).cycle) }
+    ensures ahead { result ≡ false → 0 < place →
+        (slice_index_or points.now (place - 1) no_point).cycle < cycle }
 {
     place > 0 && points[place - 1].cycle >= cycle
 }
@@ -41,7 +45,8 @@ fn places_between(points: &[Point], from: usize, to: usize, cycle: u64) -> usize
     requires late { to < length points.now → cycle ≤ (slice_index_or points.now to no_point).cycle }
     ensures bound { result ≤ length points.now }
     ensures ahead { 0 < result → (slice_index_or points.now (result - 1) no_point).cycle < cycle }
-    ensures late { result < length points.now → cycle ≤ (slice_index_or points.now result no_point).cycle }
+    ensures late { result < length points.now →
+        cycle ≤ (slice_index_or points.now result no_point).cycle }
 {
     let mut low = from;
     let mut high = to;
@@ -63,7 +68,8 @@ fn places_from(points: &[Point], from: usize, cycle: u64) -> usize
     requires ahead { 0 < from → (slice_index_or points.now (from - 1) no_point).cycle < cycle }
     ensures bound { result ≤ length points.now }
     ensures ahead { 0 < result → (slice_index_or points.now (result - 1) no_point).cycle < cycle }
-    ensures late { result < length points.now → cycle ≤ (slice_index_or points.now result no_point).cycle }
+    ensures late { result < length points.now →
+        cycle ≤ (slice_index_or points.now result no_point).cycle }
 {
     let mut low = from;
     let mut far: usize = 1;
@@ -85,7 +91,8 @@ fn places_up_to(points: &[Point], to: usize, cycle: u64) -> usize
     requires late { to < length points.now → cycle ≤ (slice_index_or points.now to no_point).cycle }
     ensures bound { result ≤ length points.now }
     ensures ahead { 0 < result → (slice_index_or points.now (result - 1) no_point).cycle < cycle }
-    ensures late { result < length points.now → cycle ≤ (slice_index_or points.now result no_point).cycle }
+    ensures late { result < length points.now →
+        cycle ≤ (slice_index_or points.now result no_point).cycle }
 {
     let mut high = to;
     let mut far: usize = 1;
@@ -105,7 +112,8 @@ fn places_up_to(points: &[Point], to: usize, cycle: u64) -> usize
 pub fn places_before_near(points: &[Point], near: usize, cycle: u64) -> usize
     requires { IsNonDecreasingBy (λ (p : Point). p.cycle) points.now }
     ensures bound { result ≤ length points.now }
-    ensures parts { IsPartitionPoint (λ (p : Point). p.cycle < cycle) (λ (p : Point). cycle ≤ p.cycle) points.now result }
+    ensures parts { IsPartitionPoint (λ (p : Point). p.cycle < cycle)
+        (λ (p : Point). cycle ≤ p.cycle) points.now result }
 {
     let place = near.min(points.len());
     if is_early(points, place, cycle) {
@@ -131,8 +139,10 @@ pub fn load_before(points: &[Point], place: usize) -> u64
 
 /// Whether the point at a place is there and stands at a cycle.
 pub fn stands_at(points: &[Point], place: usize, cycle: u64) -> bool
-    ensures there { result ≡ true → (place < length points.now) × ((slice_index_or points.now place no_point).cycle ≡ cycle) }
-    ensures elsewhere { result ≡ false → place < length points.now → (slice_index_or points.now place no_point).cycle ≡ cycle → ⊥ }
+    ensures there { result ≡ true →
+        (place < length points.now) × ((slice_index_or points.now place no_point).cycle ≡ cycle) }
+    ensures elsewhere { result ≡ false → place < length points.now →
+        (slice_index_or points.now place no_point).cycle ≡ cycle → ⊥ }
 {
     place < points.len() && points[place].cycle == cycle
 }
@@ -207,7 +217,8 @@ fn count_used(points: &[Point]) -> usize
 
 /// Takes the points at the end out at which no mark stands.
 pub fn drop_last_unused(points: &mut Vec<Point>)
-    ensures items { (n : ℕ) × (points.new.items ≡ take n points.old.items) × (all_uses (drop n points.old.items) ≡ 0) }
+    ensures items { (n : ℕ) × (points.new.items ≡ take n points.old.items)
+        × (all_uses (drop n points.old.items) ≡ 0) }
     ensures capacity { vec_capacity points.new ≡ vec_capacity points.old }
 {
     let count = count_used(points);

@@ -66,9 +66,11 @@ fn after_step(
     requires profile { (load : ℕ → ℕ) × IsEndedProfile load points.now last }
     ensures from { start ≤ result }
     ensures most { result ≤ last }
-    ensures fits { (load : ℕ → ℕ) → IsEndedProfile load points.now last → (c : ℕ) → result + offset ≤ c → c < result + end → load c ≤ free }
-    ensures least { (load : ℕ → ℕ) → IsEndedProfile load points.now last → (other : ℕ) → start ≤ other →
-        ((c : ℕ) → other + offset ≤ c → c < other + end → load c ≤ free) → result ≤ other }
+    ensures fits { (load : ℕ → ℕ) → IsEndedProfile load points.now last → (c : ℕ) →
+        result + offset ≤ c → c < result + end → load c ≤ free }
+    ensures least { (load : ℕ → ℕ) → IsEndedProfile load points.now last → (other : ℕ) →
+        start ≤ other → ((c : ℕ) → other + offset ≤ c → c < other + end → load c ≤ free) →
+        result ≤ other }
 {
     if end <= offset {
         return start;
@@ -130,10 +132,11 @@ fn looked_at(
     ensures moved { result.place < to → start < result.start }
     ensures there { result.place < to → (load : ℕ → ℕ) → IsEndedProfile load points.now last →
         StepFits load test.now.limit result.start test.now.length result.place test.now.steps.now }
-    ensures before { (load : ℕ → ℕ) → IsEndedProfile load points.now last → (k : ℕ) → from ≤ k → k < result.place →
-        StepFits load test.now.limit start test.now.length k test.now.steps.now }
-    ensures least { (load : ℕ → ℕ) → IsEndedProfile load points.now last → (other : ℕ) → start ≤ other →
-        StepsFit load test.now.limit other test.now.length test.now.steps.now → result.start ≤ other }
+    ensures before { (load : ℕ → ℕ) → IsEndedProfile load points.now last → (k : ℕ) → from ≤ k →
+        k < result.place → StepFits load test.now.limit start test.now.length k test.now.steps.now }
+    ensures least { (load : ℕ → ℕ) → IsEndedProfile load points.now last → (other : ℕ) →
+        start ≤ other → StepsFit load test.now.limit other test.now.length test.now.steps.now →
+        result.start ≤ other }
 {
     let mut near = first;
     for place in from..to {
@@ -163,9 +166,10 @@ fn after_only(
     requires within { step.1 ≤ limit }
     ensures from { start ≤ result }
     ensures most { result ≤ last }
-    ensures fits { (load : ℕ → ℕ) → IsEndedProfile load points.now last → StepsFit load limit result length (step ∷ []) }
-    ensures least { (load : ℕ → ℕ) → IsEndedProfile load points.now last → (other : ℕ) → start ≤ other →
-        StepsFit load limit other length (step ∷ []) → result ≤ other }
+    ensures fits { (load : ℕ → ℕ) → IsEndedProfile load points.now last →
+        StepsFit load limit result length (step ∷ []) }
+    ensures least { (load : ℕ → ℕ) → IsEndedProfile load points.now last → (other : ℕ) →
+        start ≤ other → StepsFit load limit other length (step ∷ []) → result ≤ other }
 {
     let (offset, power) = step;
     after_step(
@@ -196,9 +200,10 @@ fn after_steps(
     requires within { All (λ (s : ℕ × ℕ). s.1 ≤ limit) steps.now }
     ensures from { start ≤ result }
     ensures most { result ≤ last }
-    ensures fits { (load : ℕ → ℕ) → IsEndedProfile load points.now last → StepsFit load limit result length steps.now }
-    ensures least { (load : ℕ → ℕ) → IsEndedProfile load points.now last → (other : ℕ) → start ≤ other →
-        StepsFit load limit other length steps.now → result ≤ other }
+    ensures fits { (load : ℕ → ℕ) → IsEndedProfile load points.now last →
+        StepsFit load limit result length steps.now }
+    ensures least { (load : ℕ → ℕ) → IsEndedProfile load points.now last → (other : ℕ) →
+        start ≤ other → StepsFit load limit other length steps.now → result ≤ other }
 {
     let test = SteppedTest {
         steps,
@@ -240,9 +245,10 @@ pub fn after_power(
     requires within { All (λ (s : ℕ × ℕ). s.1 ≤ limit) steps.now }
     ensures from { start ≤ result }
     ensures most { result ≤ last }
-    ensures fits { (load : ℕ → ℕ) → IsEndedProfile load points.now last → StepsFit load limit result length steps.now }
-    ensures least { (load : ℕ → ℕ) → IsEndedProfile load points.now last → (other : ℕ) → start ≤ other →
-        StepsFit load limit other length steps.now → result ≤ other }
+    ensures fits { (load : ℕ → ℕ) → IsEndedProfile load points.now last →
+        StepsFit load limit result length steps.now }
+    ensures least { (load : ℕ → ℕ) → IsEndedProfile load points.now last → (other : ℕ) →
+        start ≤ other → StepsFit load limit other length steps.now → result ≤ other }
 {
     if steps.len() == 1 {
         return after_only(points, limit, steps[0], length, start, last);
@@ -252,7 +258,8 @@ pub fn after_power(
 
 /// Whether no step draws more than `most`.
 pub fn are_low(steps: &[(u64, u64)], most: u64) -> bool
-    ensures { result ≡ true → (k : ℕ) → k < length_of steps.now → (slice_index_or steps.now k (0, 0)).1 ≤ most }
+    ensures { result ≡ true → (k : ℕ) → k < length_of steps.now →
+        (slice_index_or steps.now k (0, 0)).1 ≤ most }
 {
     for place in 0..steps.len() {
         if steps[place].1 > most {

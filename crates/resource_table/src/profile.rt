@@ -55,7 +55,8 @@ fn is_over(draw: &Draw) -> bool
 /// draw is answered. A draw that is over as it begins is taken at none.
 fn raise_load(points: &mut Vec<Point>, near: usize, draw: &Draw) -> usize
     requires ordered { IsNonDecreasingBy (λ (p : Point). p.cycle) points.old.items }
-    requires fits { All (λ (p : Point). p.load + taken_by p.cycle draw.now < 2 ^ 64) points.old.items }
+    requires fits { All (λ (p : Point). p.load + taken_by p.cycle draw.now < 2 ^ 64)
+        points.old.items }
     ensures items { points.new.items ≡ map (raised_by draw.now) points.old.items }
     ensures capacity { vec_capacity points.new ≡ vec_capacity points.old }
 {
@@ -97,10 +98,13 @@ fn lower_load(points: &mut Vec<Point>, near: usize, draw: &Draw) -> usize
 /// and with them no more than `limit` is drawn at any cycle.
 fn add_draws(points: &mut Vec<Point>, draws: &[Draw], from: usize, start: u64, limit: u64)
     requires from { from ≤ length draws.now }
-    requires room { all_uses points.old.items + (length draws.now - from + 1) ≤ vec_capacity points.old }
+    requires room { all_uses points.old.items + (length draws.now - from + 1)
+        ≤ vec_capacity points.old }
     requires within { (c : ℕ) → load_of draws.now c ≤ limit }
-    requires points { (cycles : List ℕ) × AreMarked (take from draws.now) cycles × ArePoints (take from draws.now) cycles points.old.items }
-    ensures points { (cycles : List ℕ) → AreMarked (take from draws.now) cycles → ArePoints (take from draws.now) cycles points.old.items →
+    requires points { (cycles : List ℕ) × AreMarked (take from draws.now) cycles
+        × ArePoints (take from draws.now) cycles points.old.items }
+    ensures points { (cycles : List ℕ) → AreMarked (take from draws.now) cycles →
+        ArePoints (take from draws.now) cycles points.old.items →
         ArePoints draws.now (marks_from start (drop from draws.now) ++ cycles) points.new.items }
     ensures capacity { vec_capacity points.new ≡ vec_capacity points.old }
 {
@@ -113,8 +117,10 @@ fn add_draws(points: &mut Vec<Point>, draws: &[Draw], from: usize, start: u64, l
 /// Takes away all draws but the first `count`: those of a test from a start.
 fn take_draws(points: &mut Vec<Point>, draws: &[Draw], count: usize, start: u64)
     requires count { count ≤ length draws.now }
-    requires points { (cycles : List ℕ) × ArePoints draws.now (marks_from start (drop count draws.now) ++ cycles) points.old.items }
-    ensures points { (cycles : List ℕ) → ArePoints draws.now (marks_from start (drop count draws.now) ++ cycles) points.old.items →
+    requires points { (cycles : List ℕ)
+        × ArePoints draws.now (marks_from start (drop count draws.now) ++ cycles) points.old.items }
+    ensures points { (cycles : List ℕ) →
+        ArePoints draws.now (marks_from start (drop count draws.now) ++ cycles) points.old.items →
         ArePoints (take count draws.now) cycles points.new.items }
     ensures capacity { vec_capacity points.new ≡ vec_capacity points.old }
 {
@@ -137,7 +143,8 @@ pub fn add_drawn(
     start: u64,
 )
     requires from { from ≤ length draws.now }
-    requires room { IfSome limit (λ _. all_uses points.old.items + (length draws.now - from + 1) ≤ vec_capacity points.old) }
+    requires room { IfSome limit
+        (λ _. all_uses points.old.items + (length draws.now - from + 1) ≤ vec_capacity points.old) }
     requires within { IfSome limit (λ most. (c : ℕ) → load_of draws.now c ≤ most) }
     requires points { IfSome limit (λ _. (cycles : List ℕ) × AreMarked (take from draws.now) cycles
         × ArePoints (take from draws.now) cycles points.old.items) }

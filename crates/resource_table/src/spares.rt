@@ -40,8 +40,11 @@ pub fn put_spares(points: &mut Vec<Point>, place: usize, more: usize)
 
 /// Whether the point of a cycle is missing at its place and may be put over a spare point that stands at another place.
 pub fn takes_spare(points: &[Point], place: usize, spare: usize, cycle: u64) -> bool
-    ensures spare { result ≡ true → (place ≤ spare) × (spare < length points.now) × ((slice_index_or points.now spare no_point).uses ≡ 0) }
-    ensures missing { result ≡ true → place < length points.now → (slice_index_or points.now place no_point).cycle ≡ cycle → ⊥ }
+    ensures spare { result ≡ true →
+        (place ≤ spare) × (spare < length points.now)
+        × ((slice_index_or points.now spare no_point).uses ≡ 0) }
+    ensures missing { result ≡ true → place < length points.now →
+        (slice_index_or points.now place no_point).cycle ≡ cycle → ⊥ }
 {
     place <= spare
         && spare < points.len()

@@ -75,8 +75,10 @@ impl<J> Model for TableOf<J> {
     ghost view = { λ t. record { job = job_value t.own; placed = t.trail.items } };
 
     ghost invariant = { λ t. IsKept (job_value t.own) t.trail t.ends t.lasts t.draws
-        × AreListed (job_value t.own) (map listed t.before.items) × IsProfiled (job_value t.own) t.trail t.draws t.points
-        × AreTimes (job_value t.own) t.trail.items t.times × IsBounded (job_value t.own) t.trail.items t.bounds };
+        × AreListed (job_value t.own) (map listed t.before.items)
+        × IsProfiled (job_value t.own) t.trail t.draws t.points
+        × AreTimes (job_value t.own) t.trail.items t.times
+        × IsBounded (job_value t.own) t.trail.items t.bounds };
 }
 
 /// The end of a test, where it is placed and ends after `latest`; else `latest`.
@@ -92,8 +94,11 @@ fn later_end(earlier: usize, ends: &[Option<u64>], latest: u64) -> u64
 /// The latest end of those of some tests that are placed, 0 where there is none.
 fn latest_end(tests: &[usize], ends: &[Option<u64>]) -> u64
     requires in_range { All (λ test. test < length ends.now) tests.now }
-    ensures latest { All (λ test. unwrap_or (slice_index_or ends.now test None) 0 ≤ result) tests.now }
-    ensures is { (result ≡ 0) ⊎ ((test : ℕ) × Contains tests.now test × (result ≡ unwrap_or (slice_index_or ends.now test None) 0)) }
+    ensures latest { All (λ test. unwrap_or (slice_index_or ends.now test None) 0 ≤ result)
+        tests.now }
+    ensures is { (result ≡ 0)
+        ⊎ ((test : ℕ) × Contains tests.now test
+        × (result ≡ unwrap_or (slice_index_or ends.now test None) 0)) }
 {
     let mut latest: u64 = 0;
     for test in tests {
@@ -208,7 +213,8 @@ fn job_parts(alloc: Global, job: &Job) -> Result<JobParts, NoMemory>
     requires { IsSoundJob (job_value job.now) }
     ensures own { IfOk result (λ parts. job_value parts.own ≡ job_value job.now) }
     ensures times { IfOk result (λ parts. AreEmptyTimes (job_value job.now).tests parts.times) }
-    ensures before { IfOk result (λ parts. AreListed (job_value job.now) (map listed parts.before.items)) }
+    ensures before { IfOk result
+        (λ parts. AreListed (job_value job.now) (map listed parts.before.items)) }
 {
     let before = all_before(alloc, job.tests.len(), &job.before)?;
     let times = empty_times(alloc, &job.tests)?;
@@ -243,7 +249,8 @@ fn send_one_over(test: &mut JobTest, bus: Option<usize>, length: u64)
 fn send_over(tests: &mut [JobTest], buses: &[Option<usize>], lengths: &[u64])
     requires buses { length buses.now ≡ length tests.old }
     requires lengths { length lengths.now ≡ length tests.old }
-    ensures { map test_value tests.new ≡ tests_over buses.now lengths.now (map test_value tests.old) }
+    ensures { map test_value tests.new
+        ≡ tests_over buses.now lengths.now (map test_value tests.old) }
 {
     for place in 0..tests.len() {
         send_one_over(&mut tests[place], buses[place], lengths[place]);
@@ -314,7 +321,8 @@ impl<J> TableOf<J> {
     /// wherever it is placed.
     pub fn ready_end(&self, test: usize) -> u64
         requires in_job { test < length self.now.job.tests }
-        ensures end { result ≡ ready_at self.now.job self.now.placed test + cycles_of self.now.job test }
+        ensures end { result
+            ≡ ready_at self.now.job self.now.placed test + cycles_of self.now.job test }
         ensures sound { IsSoundTable self.now }
     {
         self.ready(test) + self.own.tests[test].length
@@ -329,7 +337,8 @@ impl<J> TableOf<J> {
         ensures from { start ≤ result }
         ensures most { result ≤ last }
         ensures apart { MeetsNone self.now.job self.now.placed test result }
-        ensures least { (other : ℕ) → start ≤ other → MeetsNone self.now.job self.now.placed test other → result ≤ other }
+        ensures least { (other : ℕ) → start ≤ other →
+            MeetsNone self.now.job self.now.placed test other → result ≤ other }
     {
         let wanted = &self.own.tests[test];
         after_busy(&self.times, wanted, start, last)
@@ -343,7 +352,8 @@ impl<J> TableOf<J> {
         ensures from { start ≤ result }
         ensures most { result ≤ last }
         ensures within { StaysWithin self.now.job self.now.placed test result }
-        ensures least { (other : ℕ) → start ≤ other → StaysWithin self.now.job self.now.placed test other → result ≤ other }
+        ensures least { (other : ℕ) → start ≤ other →
+            StaysWithin self.now.job self.now.placed test other → result ≤ other }
     {
         let Some(limit) = self.own.power else {
             return start;
@@ -372,7 +382,8 @@ impl<J> TableOf<J> {
         requires in_job { test < length self.now.job.tests }
         ensures after { ComesAfter self.now.job self.now.placed test result }
         ensures most { result ≤ last_end_of self.now.job self.now.placed }
-        ensures least { (other : ℕ) → Fits self.now.job self.now.placed test other → result ≤ other }
+        ensures least { (other : ℕ) → Fits self.now.job self.now.placed test other →
+            result ≤ other }
     {
         self.ready(test).max(self.bounds.values[test].start)
     }
@@ -411,8 +422,10 @@ impl<J> TableOf<J> {
     /// What is noted of a test.
     fn note_of(&self, test: usize) -> Note
         requires in_job { test < length self.now.job.tests }
-        ensures found { result.depth ≡ length self.now.placed + 1 → IsEarliest self.now.job self.now.placed test result.start }
-        ensures at_last { result.depth ≡ length self.now.placed + 1 → result.start ≤ last_end_of self.now.job self.now.placed }
+        ensures found { result.depth ≡ length self.now.placed + 1 →
+            IsEarliest self.now.job self.now.placed test result.start }
+        ensures at_last { result.depth ≡ length self.now.placed + 1 →
+            result.start ≤ last_end_of self.now.job self.now.placed }
         ensures sound { IsSoundTable self.now }
     {
         self.bounds.values[test]
@@ -469,7 +482,8 @@ impl<J> TableOf<J> {
     /// Where a test ends if it starts at the least start at which it fits beside the placed tests.
     pub fn end_now(&self, test: usize) -> u64
         requires in_job { test < length self.now.job.tests }
-        ensures end { (start : ℕ) × IsEarliest self.now.job self.now.placed test start × (result ≡ start + cycles_of self.now.job test) }
+        ensures end { (start : ℕ) × IsEarliest self.now.job self.now.placed test start
+            × (result ≡ start + cycles_of self.now.job test) }
         ensures sound { IsSoundTable self.now }
     {
         self.earliest(test) + self.own.tests[test].length
@@ -512,7 +526,8 @@ impl<J> TableOf<J> {
     pub(crate) fn push(&mut self, test: usize, start: u64) -> usize
         requires { MayPlace self.old.job self.old.placed test start }
         ensures before { result ≡ length self.old.placed }
-        ensures table { self.new ≡ record self.old { placed = self.old.placed ++ at_start test start ∷ [] } }
+        ensures table { self.new
+            ≡ record self.old { placed = self.old.placed ++ at_start test start ∷ [] } }
         ensures sound { IsSoundTable self.new }
     {
         let before = self.trail.len();
@@ -539,7 +554,8 @@ impl<J> TableOf<J> {
     /// Takes the last placement back.
     fn pop(&mut self)
         requires { 1 ≤ length self.old.placed }
-        ensures { self.new ≡ record self.old { placed = take (length self.old.placed - 1) self.old.placed } }
+        ensures { self.new
+            ≡ record self.old { placed = take (length self.old.placed - 1) self.old.placed } }
     {
         if let Some(last) = self.trail.pop() {
             let gone = &self.own.tests[last.test];
@@ -588,7 +604,8 @@ impl<J> TableOf<J> {
         requires lengths { length lengths.now ≡ length self.old.job.tests }
         requires room { All (λ bus. IfSome bus (λ k. k < WIRES_MOST)) buses.now }
         requires sound { IsSoundJob (job_over buses.now lengths.now self.old.job) }
-        ensures empty { self.new ≡ record { job = job_over buses.now lengths.now self.old.job; placed = [] } }
+        ensures empty { self.new
+            ≡ record { job = job_over buses.now lengths.now self.old.job; placed = [] } }
         ensures sound { IsSoundTable self.new }
     {
         clear_times(&mut self.times);

@@ -85,7 +85,8 @@ fn all_end_by(spans: &[Span], cycle: u64) -> bool
 fn starts_before(spans: &[Span], cycle: u64) -> usize
     requires { IsNonDecreasingBy (λ (s : Span). s.from) spans.now }
     ensures bound { result ≤ length_of spans.now }
-    ensures parts { IsPartitionPoint (λ (s : Span). s.from < cycle) (λ (s : Span). cycle ≤ s.from) spans.now result }
+    ensures parts { IsPartitionPoint (λ (s : Span). s.from < cycle) (λ (s : Span). cycle ≤ s.from)
+        spans.now result }
 {
     if all_start_before(spans, cycle) {
         return spans.len();
@@ -101,7 +102,8 @@ fn starts_before(spans: &[Span], cycle: u64) -> usize
 fn last_only_runs(spans: &[Span], cycle: u64) -> bool
     requires { IsNonDecreasingBy (λ (s : Span). s.to) spans.now }
     ensures some { result ≡ true → 1 ≤ length_of spans.now }
-    ensures parts { result ≡ true → IsPartitionPoint (λ (s : Span). s.to ≤ cycle) (λ (s : Span). cycle < s.to) spans.now
+    ensures parts { result ≡ true →
+        IsPartitionPoint (λ (s : Span). s.to ≤ cycle) (λ (s : Span). cycle < s.to) spans.now
         (length_of spans.now - 1) }
 {
     let count = spans.len();
@@ -118,7 +120,8 @@ fn last_only_runs(spans: &[Span], cycle: u64) -> bool
 fn ended_by(spans: &[Span], cycle: u64) -> usize
     requires { IsNonDecreasingBy (λ (s : Span). s.to) spans.now }
     ensures bound { result ≤ length_of spans.now }
-    ensures parts { IsPartitionPoint (λ (s : Span). s.to ≤ cycle) (λ (s : Span). cycle < s.to) spans.now result }
+    ensures parts { IsPartitionPoint (λ (s : Span). s.to ≤ cycle) (λ (s : Span). cycle < s.to)
+        spans.now result }
 {
     if last_only_runs(spans, cycle) {
         return spans.len() - 1;
@@ -221,7 +224,8 @@ fn after_spans(spans: &[Span], first: usize, length: u64, start: u64, last: u64)
     ensures from { start ≤ result }
     ensures most { result ≤ last }
     ensures clear { All (IsClear length result) spans.now }
-    ensures least { (other : ℕ) → start ≤ other → All (IsClear length other) spans.now → result ≤ other }
+    ensures least { (other : ℕ) → start ≤ other → All (IsClear length other) spans.now →
+        result ≤ other }
 {
     let mut next = start;
     for place in first..spans.len() {
@@ -243,11 +247,13 @@ fn after_alone(lines: &[Timeline], place: Option<usize>, length: u64, start: u64
         IsNonDecreasingBy (λ (s : Span). s.from) line.spans.items }
     requires turns { (k : ℕ) (line : Timeline) → slice_get lines.now k ≡ Some line →
         IsNonDecreasingBy (λ (s : Span). s.to) line.spans.items }
-    requires ends { (k : ℕ) (line : Timeline) → slice_get lines.now k ≡ Some line → All (λ (s : Span). s.to ≤ last) line.spans.items }
+    requires ends { (k : ℕ) (line : Timeline) → slice_get lines.now k ≡ Some line →
+        All (λ (s : Span). s.to ≤ last) line.spans.items }
     ensures from { start ≤ result }
     ensures most { result ≤ last }
     ensures clear { AreFree lines.now place length result }
-    ensures least { (other : ℕ) → start ≤ other → AreFree lines.now place length other → result ≤ other }
+    ensures least { (other : ℕ) → start ≤ other → AreFree lines.now place length other →
+        result ≤ other }
 {
     let Some(at) = place else {
         return start;
@@ -270,11 +276,13 @@ fn after_together(lines: &[Timeline], place: usize, length: u64, start: u64, las
     requires last { last + length < 2 ^ 63 }
     requires starts { (k : ℕ) (line : Timeline) → slice_get lines.now k ≡ Some line →
         IsNonDecreasingBy (λ (s : Span). s.from) line.spans.items }
-    requires ends { (k : ℕ) (line : Timeline) → slice_get lines.now k ≡ Some line → All (λ (s : Span). s.to ≤ last) line.spans.items }
+    requires ends { (k : ℕ) (line : Timeline) → slice_get lines.now k ≡ Some line →
+        All (λ (s : Span). s.to ≤ last) line.spans.items }
     ensures from { start ≤ result }
     ensures most { result ≤ last }
     ensures clear { AreFree lines.now (Some place) length result }
-    ensures least { (other : ℕ) → start ≤ other → AreFree lines.now (Some place) length other → result ≤ other }
+    ensures least { (other : ℕ) → start ≤ other → AreFree lines.now (Some place) length other →
+        result ≤ other }
 {
     let Some(line) = lines.get(place) else {
         return start;
@@ -291,7 +299,8 @@ fn after_children(times: &Timelines, place: usize, length: u64, start: u64, last
     ensures from { start ≤ result }
     ensures most { result ≤ last }
     ensures clear { AreFree times.now.children.items (Some place) length result }
-    ensures least { (other : ℕ) → start ≤ other → AreFree times.now.children.items (Some place) length other → result ≤ other }
+    ensures least { (other : ℕ) → start ≤ other →
+        AreFree times.now.children.items (Some place) length other → result ≤ other }
 {
     if have_ended(&times.latest, place, start) {
         return start;
@@ -372,7 +381,8 @@ fn clear_latest(latest: &mut LatestEnds)
 
 /// Takes the times of all tests out.
 pub fn clear_times(times: &mut Timelines)
-    ensures { (job : JobValue) (placed : List Placement) → AreTimes job placed times.old → AreEmptyTimes job.tests times.new }
+    ensures { (job : JobValue) (placed : List Placement) → AreTimes job placed times.old →
+        AreEmptyTimes job.tests times.new }
 {
     clear_lines(&mut times.buses);
     clear_lines(&mut times.modules);
@@ -388,10 +398,14 @@ fn after_modules(times: &Timelines, test: &JobTest, start: u64, last: u64) -> u6
     requires times { AreOrdered times.now last }
     ensures from { start ≤ result }
     ensures most { result ≤ last }
-    ensures own { result ≡ start → AreFree times.now.modules.items (Some test.now.place) test.now.length start }
-    ensures parent { result ≡ start → AreFree times.now.modules.items test.now.parent test.now.length start }
-    ensures children { result ≡ start → AreFree times.now.children.items (Some test.now.place) test.now.length start }
-    ensures least { (other : ℕ) → start ≤ other → IsFree times.now (test_value test.now) other → result ≤ other }
+    ensures own { result ≡ start →
+        AreFree times.now.modules.items (Some test.now.place) test.now.length start }
+    ensures parent { result ≡ start →
+        AreFree times.now.modules.items test.now.parent test.now.length start }
+    ensures children { result ≡ start →
+        AreFree times.now.children.items (Some test.now.place) test.now.length start }
+    ensures least { (other : ℕ) → start ≤ other → IsFree times.now (test_value test.now) other →
+        result ≤ other }
 {
     let length = test.length;
     let own = after_alone(&times.modules, Some(test.place), length, start, last);
@@ -407,7 +421,8 @@ pub fn after_busy(times: &Timelines, test: &JobTest, start: u64, last: u64) -> u
     ensures from { start ≤ result }
     ensures most { result ≤ last }
     ensures free { IsFree times.now (test_value test.now) result }
-    ensures least { (other : ℕ) → start ≤ other → IsFree times.now (test_value test.now) other → result ≤ other }
+    ensures least { (other : ℕ) → start ≤ other → IsFree times.now (test_value test.now) other →
+        result ≤ other }
 {
     let mut found = start;
     'starts: loop {

@@ -57,10 +57,11 @@ fn decide_retarget<H: Shelf>(
 ) -> Ending
     ensures held_stays { H.held shelf.new ≡ H.held shelf.old }
     ensures faults_never_fall { H.faults shelf.old ≤ H.faults shelf.new }
-    ensures closes { Closes (procedure_of (Retarget soc.now limits.now plan.now name.now)) (H.held shelf.old) (H.faults shelf.old)
-        (H.faults shelf.new) (ending_value result) }
+    ensures closes { Closes (procedure_of (Retarget soc.now limits.now plan.now name.now))
+        (H.held shelf.old) (H.faults shelf.old) (H.faults shelf.new) (ending_value result) }
     ensures by_loads { LoadsEnding H.is_load
-        (procedure_of (Retarget soc.now limits.now plan.now name.now)) shelf.old (ending_value result) shelf.new }
+        (procedure_of (Retarget soc.now limits.now plan.now name.now)) shelf.old
+        (ending_value result) shelf.new }
 {
     match load_all(alloc, soc, limits, plan, shelf) {
         Ok(all) => decide_data(alloc, all, name, shelf),
@@ -72,12 +73,14 @@ fn decide_retarget<H: Shelf>(
 pub(crate) fn decide<H: Shelf>(alloc: Global, words: &[String], shelf: &mut H) -> Ending
     ensures held_stays { H.held shelf.new ≡ H.held shelf.old }
     ensures faults_never_fall { H.faults shelf.old ≤ H.faults shelf.new }
-    ensures closes { Closes (asked procedure_of (asked_command (map string_bytes words.now))) (H.held shelf.old) (H.faults shelf.old)
-        (H.faults shelf.new) (ending_value result) }
+    ensures closes { Closes (asked procedure_of (asked_command (map string_bytes words.now)))
+        (H.held shelf.old) (H.faults shelf.old) (H.faults shelf.new) (ending_value result) }
     ensures by_loads { LoadsEnding H.is_load
         (asked procedure_of (asked_command (map string_bytes words.now)))
         shelf.old (ending_value result) shelf.new }
-    ensures untouched { (IsCommand (asked procedure_of (asked_command (map string_bytes words.now))) → ⊥) → shelf.new ≡ shelf.old }
+    ensures untouched { (IsCommand
+        (asked procedure_of (asked_command (map string_bytes words.now))) → ⊥) →
+        shelf.new ≡ shelf.old }
 {
     match command_of(words) {
         Some(

@@ -64,8 +64,8 @@ fn write_accepted<K: Sink>(
 /// Writes what a call ends with, and answers its status.
 pub fn write_ending<K: Sink>(alloc: Global, ending: Ending, out: &mut K) -> Status
     ensures faults_never_fall { K.faults out.old ≤ K.faults out.new }
-    ensures written { WritesEnding (ending_value ending) (K.faults out.old) (K.faults out.new) (K.written out.old) result
-        (K.written out.new) }
+    ensures written { WritesEnding (ending_value ending) (K.faults out.old) (K.faults out.new)
+        (K.written out.old) result (K.written out.new) }
     ensures puts { PutsEnding K.is_put (ending_value ending) out.old result out.new }
 {
     match ending {

@@ -18,22 +18,25 @@ ghost use Rattle.retargeter.specs.Readings.{RefusesData, SaysSuiting};
 /// The text of a good plan with data that suits its chip runs right with each content that agrees with the data, and compares each
 /// response bit that the data says, and nothing else.
 pub fn retargeted_texts_run_right()
-    ensures { (soc : SocValue) (limits : LimitsValue) (plan : PlanValue) (es : List EntryValue) → IsSoundChip soc → IsGood soc limits plan →
-        Suits soc es → RunsWithData soc plan es (retarget_text soc plan es) }
+    ensures { (soc : SocValue) (limits : LimitsValue) (plan : PlanValue) (es : List EntryValue) →
+        IsSoundChip soc → IsGood soc limits plan → Suits soc es →
+        RunsWithData soc plan es (retarget_text soc plan es) }
 {}
 
 /// Where the data says each response bit, the text is that of the vectors of each content that agrees with the data.
 pub fn full_data_gives_vectors()
-    ensures { (soc : SocValue) (limits : LimitsValue) (plan : PlanValue) (es : List EntryValue) (content : Content) → IsSoundChip soc →
-        IsGood soc limits plan → Suits soc es → Agrees soc es content → SaysAllResponses es →
+    ensures { (soc : SocValue) (limits : LimitsValue) (plan : PlanValue) (es : List EntryValue)
+        (content : Content) → IsSoundChip soc → IsGood soc limits plan → Suits soc es →
+        Agrees soc es content → SaysAllResponses es →
         retarget_text soc plan es ≡ vector_text soc plan content }
 {}
 
 /// The text of a good plan with the data of a content is that of the content's vectors: `retarget` of what `data` writes for a seed is
 /// what `vectors` writes for it.
 pub fn data_of_contents_gives_vectors()
-    ensures { (soc : SocValue) (limits : LimitsValue) (plan : PlanValue) (content : Content) → IsSoundChip soc →
-        IsGood soc limits plan → retarget_text soc plan (entries_of soc content) ≡ vector_text soc plan content }
+    ensures { (soc : SocValue) (limits : LimitsValue) (plan : PlanValue) (content : Content) →
+        IsSoundChip soc → IsGood soc limits plan →
+        retarget_text soc plan (entries_of soc content) ≡ vector_text soc plan content }
 {}
 
 /// A text says at most one list of entries that suit a chip, and is refused in no more than one line.

@@ -31,7 +31,8 @@ fn test_line(alloc: Global, test: TestId) -> Result<Vec<u8>, NoMemory>
 
 /// `refused data patterns`, a test and how many patterns are wanted.
 fn patterns_line(alloc: Global, test: TestId, wanted: u64) -> Result<Vec<u8>, NoMemory>
-    ensures text { IfOk result (λ text. text.items ≡ misfit_line_text (Misfit.Patterns test wanted)) }
+    ensures text { IfOk result
+        (λ text. text.items ≡ misfit_line_text (Misfit.Patterns test wanted)) }
     ensures line { IfOk result (λ text. IsTrue (is_line text.items)) }
 {
     let mut text = Vec::new(alloc);

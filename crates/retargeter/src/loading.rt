@@ -48,7 +48,8 @@ fn load_for_chip<H: Shelf>(
     ensures held_stays { H.held shelf.new ≡ H.held shelf.old }
     ensures faults_never_fall { H.faults shelf.old ≤ H.faults shelf.new }
     ensures suits { IfOk result (Suits (soc_value soc.now)) }
-    ensures loads { LoadsSuiting (soc_value soc.now) name.now (H.held shelf.old) (H.faults shelf.old) (H.faults shelf.new) result }
+    ensures loads { LoadsSuiting (soc_value soc.now) name.now (H.held shelf.old)
+        (H.faults shelf.old) (H.faults shelf.new) result }
     ensures by_loads { LoadsData H.is_load (soc_value soc.now) name.now shelf.old result shelf.new }
 {
     data_without_misfit_suits();
@@ -72,7 +73,8 @@ pub fn load_suiting<H: Shelf>(
     ensures held_stays { H.held shelf.new ≡ H.held shelf.old }
     ensures faults_never_fall { H.faults shelf.old ≤ H.faults shelf.new }
     ensures suits { IfOk result (Suits all.now.soc) }
-    ensures loads { LoadsSuiting all.now.soc name.now (H.held shelf.old) (H.faults shelf.old) (H.faults shelf.new) result }
+    ensures loads { LoadsSuiting all.now.soc name.now (H.held shelf.old) (H.faults shelf.old)
+        (H.faults shelf.new) result }
     ensures by_loads { LoadsData H.is_load all.now.soc name.now shelf.old result shelf.new }
 {
     load_for_chip(alloc, &all.soc, name, shelf)

@@ -50,7 +50,8 @@ fn written_of(
 ) -> Result<Vec<u8>, NoMemory>
     requires sound { IsSoundChip (soc_value soc.now) }
     requires limits { IsSoundLimits (soc_value soc.now) (limits_value limits.now) }
-    requires accepted { IsFaultless (soc_value soc.now) (limits_value limits.now) (plan_value plan.now) }
+    requires accepted { IsFaultless (soc_value soc.now) (limits_value limits.now)
+        (plan_value plan.now) }
 {
     good_without_limits();
     let mut out = rig.output()?;
@@ -75,7 +76,8 @@ fn run_under(
 ) -> Result<Vec<u8>, NoMemory>
     requires sound { IsSoundChip (soc_value soc.now) }
     requires limits { IsSoundLimits (soc_value soc.now) (limits_value limits.now) }
-    requires accepted { IsFaultless (soc_value soc.now) (limits_value limits.now) (plan_value plan.now) }
+    requires accepted { IsFaultless (soc_value soc.now) (limits_value limits.now)
+        (plan_value plan.now) }
 {
     good_without_limits();
     run_of_chip(rig.alloc(), soc, plan, seed)
@@ -85,7 +87,8 @@ fn run_under(
 fn chart_of(alloc: Global, soc: &Soc, limits: &Limits, plan: &Plan) -> Result<Vec<u8>, NoMemory>
     requires sound { IsSoundChip (soc_value soc.now) }
     requires limits { IsSoundLimits (soc_value soc.now) (limits_value limits.now) }
-    requires accepted { IsFaultless (soc_value soc.now) (limits_value limits.now) (plan_value plan.now) }
+    requires accepted { IsFaultless (soc_value soc.now) (limits_value limits.now)
+        (plan_value plan.now) }
 {
     good_without_limits();
     print_chart(alloc, soc, plan)

@@ -21,7 +21,8 @@ fn may_be_next<J>(job: &Job, table: &TableOf<J>, test: usize) -> bool
     requires { table.now.job ≡ job_value job.now }
     ensures in_job { result ≡ true → test < length table.now.job.tests }
     ensures new { result ≡ true → is_placed table.now.placed test ≡ false }
-    ensures ready { result ≡ true → (earlier : ℕ) → Precedes table.now.job earlier test → is_placed table.now.placed earlier ≡ true }
+    ensures ready { result ≡ true → (earlier : ℕ) → Precedes table.now.job earlier test →
+        is_placed table.now.placed earlier ≡ true }
 {
     if test >= job.tests.len() || table.is_placed(test) {
         return false;
@@ -99,7 +100,8 @@ pub fn answers_of_frames(
 ) -> Result<Vec<u8>, NoMemory>
     requires sound { IsSoundChip (soc_value soc.now) }
     requires limits { IsSoundLimits (soc_value soc.now) (limits_value limits.now) }
-    requires accepted { IsFaultless (soc_value soc.now) (limits_value limits.now) (plan_value plan.now) }
+    requires accepted { IsFaultless (soc_value soc.now) (limits_value limits.now)
+        (plan_value plan.now) }
 {
     list_schedules_are_short();
     let job = job_of_plan(alloc, soc, limits, plan)?;

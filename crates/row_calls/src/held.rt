@@ -41,7 +41,8 @@ pub fn limits_of(rig: &Rig, soc: &Soc) -> Option<Limits>
 /// Whether a plan is accepted for a problem.
 fn is_faultless(rig: &Rig, problem: &Problem<'_>, plan: &Plan) -> Result<bool, NoMemory>
     requires { AreSmallStarts (plan_value plan.now).starts }
-    ensures { IfOk result (λ yes. yes ≡ true → IsFaultless problem.now.soc problem.now.limits (plan_value plan.now)) }
+    ensures { IfOk result
+        (λ yes. yes ≡ true → IsFaultless problem.now.soc problem.now.limits (plan_value plan.now)) }
 {
     Ok(judge_plan(rig.alloc(), problem, plan)?.is_ok())
 }
@@ -51,7 +52,8 @@ fn is_accepted(rig: &Rig, soc: &Soc, limits: &Limits, plan: &Plan) -> Result<boo
     requires sound { IsSoundChip (soc_value soc.now) }
     requires limits { IsSoundLimits (soc_value soc.now) (limits_value limits.now) }
     requires starts { AreSmallStarts (plan_value plan.now).starts }
-    ensures { IfOk result (λ yes. yes ≡ true → IsFaultless (soc_value soc.now) (limits_value limits.now) (plan_value plan.now)) }
+    ensures { IfOk result (λ yes. yes ≡ true →
+        IsFaultless (soc_value soc.now) (limits_value limits.now) (plan_value plan.now)) }
 {
     let resolved = Resolved::new(rig.alloc(), soc, limits)?;
     let problem = Problem::new(soc, limits, &resolved);
@@ -63,7 +65,8 @@ fn is_accepted(rig: &Rig, soc: &Soc, limits: &Limits, plan: &Plan) -> Result<boo
 pub fn accepted_plan(rig: &Rig, soc: &Soc, limits: &Limits) -> Option<Plan>
     requires sound { IsSoundChip (soc_value soc.now) }
     requires limits { IsSoundLimits (soc_value soc.now) (limits_value limits.now) }
-    ensures { IfSome result (λ plan. IsFaultless (soc_value soc.now) (limits_value limits.now) (plan_value plan)) }
+    ensures { IfSome result
+        (λ plan. IsFaultless (soc_value soc.now) (limits_value limits.now) (plan_value plan)) }
 {
     let Ok(plan) = read_plan(rig.alloc(), rig.bytes_of("PLAN")) else {
         return None;

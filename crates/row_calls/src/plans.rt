@@ -77,7 +77,8 @@ pub fn best_bound_of(
 ) -> Result<Vec<u8>, NoMemory>
     requires sound { IsSoundChip (soc_value soc.now) }
     requires limits { IsSoundLimits (soc_value soc.now) (limits_value limits.now) }
-    requires accepted { IsFaultless (soc_value soc.now) (limits_value limits.now) (plan_value plan.now) }
+    requires accepted { IsFaultless (soc_value soc.now) (limits_value limits.now)
+        (plan_value plan.now) }
 {
     let bound = best_bound(alloc, soc, limits, plan.cycles)?;
     let alone = Plan {

@@ -21,7 +21,8 @@ use std::alloc::Global;
 pub fn job_of_plan(alloc: Global, soc: &Soc, limits: &Limits, plan: &Plan) -> Result<Job, NoMemory>
     requires sound { IsSoundChip (soc_value soc.now) }
     requires limits { IsSoundLimits (soc_value soc.now) (limits_value limits.now) }
-    requires accepted { IsFaultless (soc_value soc.now) (limits_value limits.now) (plan_value plan.now) }
+    requires accepted { IsFaultless (soc_value soc.now) (limits_value limits.now)
+        (plan_value plan.now) }
     ensures { IfOk result (λ job. IsSoundJob (job_value job)) }
 {
     let parts = JobSource {
@@ -65,7 +66,8 @@ pub fn first_order_of(
 ) -> Result<Vec<u8>, NoMemory>
     requires sound { IsSoundChip (soc_value soc.now) }
     requires limits { IsSoundLimits (soc_value soc.now) (limits_value limits.now) }
-    requires accepted { IsFaultless (soc_value soc.now) (limits_value limits.now) (plan_value plan.now) }
+    requires accepted { IsFaultless (soc_value soc.now) (limits_value limits.now)
+        (plan_value plan.now) }
 {
     let job = job_of_plan(alloc, soc, limits, plan)?;
     let order = first_order(alloc, &job)?;
@@ -79,7 +81,8 @@ fn found_twice<F: Fn(&Table<'_>, usize) -> u64>(
     alloc: Global,
     search: &mut Search<'_, F>,
 ) -> Result<Vec<u8>, NoMemory>
-    requires { IsEstimate (λ t test. F.pre search.old.ahead t test) (λ t test estimate. F.post search.old.ahead t test estimate) }
+    requires { IsEstimate (λ t test. F.pre search.old.ahead t test)
+        (λ t test estimate. F.post search.old.ahead t test estimate) }
 {
     let mut first = text_of_found(alloc, &search.run())?;
     let again = text_of_found(alloc, &search.run())?;
@@ -129,7 +132,8 @@ pub fn found_by(
 ) -> Result<Vec<u8>, NoMemory>
     requires sound { IsSoundChip (soc_value soc.now) }
     requires limits { IsSoundLimits (soc_value soc.now) (limits_value limits.now) }
-    requires accepted { IsFaultless (soc_value soc.now) (limits_value limits.now) (plan_value plan.now) }
+    requires accepted { IsFaultless (soc_value soc.now) (limits_value limits.now)
+        (plan_value plan.now) }
 {
     let job = job_of_plan(alloc, soc, limits, plan)?;
     if ends_now {

@@ -15,7 +15,8 @@ use std::alloc::Global;
 /// The bits of a response of the module, whose scan chains and output cells are read.
 fn response_bits(module: &Module) -> u64
     requires { module_size (module_value «module».now) ≤ 10 ^ 18 }
-    ensures { result ≡ sum «module».now.chains.items + («module».now.outputs + «module».now.bidirs) }
+    ensures { result
+        ≡ sum «module».now.chains.items + («module».now.outputs + «module».now.bidirs) }
 {
     let flops: u64 = module.chains.iter().sum();
     flops + (module.outputs + module.bidirs)
@@ -29,7 +30,8 @@ fn new_session(
 ) -> Result<(Session, usize, usize), NoMemory>
     requires small { module_size (module_value «module».now) ≤ 10 ^ 18 }
     requires scan { wrapper.now.scan ≡ true }
-    requires proper { IsProper (module_value «module».now) wrapper.now.scan (map chain_value wrapper.now.chains.items) }
+    requires proper { IsProper (module_value «module».now) wrapper.now.scan
+        (map chain_value wrapper.now.chains.items) }
     ensures chains { IfOk result (λ r. r.1 ≡ length r.0.cells) }
     ensures bits { IfOk result (λ r. r.2 ≡ sum_by out_length r.0.cells) }
 {
@@ -106,7 +108,8 @@ pub fn steps_of_session(
 ) -> Result<Vec<u8>, NoMemory>
     requires small { module_size (module_value «module».now) ≤ 10 ^ 18 }
     requires scan { wrapper.now.scan ≡ true }
-    requires proper { IsProper (module_value «module».now) wrapper.now.scan (map chain_value wrapper.now.chains.items) }
+    requires proper { IsProper (module_value «module».now) wrapper.now.scan
+        (map chain_value wrapper.now.chains.items) }
 {
     let (mut session, chains, reads) = new_session(alloc, module, wrapper)?;
     let mut answer = Vec::new(alloc);

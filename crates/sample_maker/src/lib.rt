@@ -106,7 +106,8 @@ pub fn sample(alloc: Global, n: u64, seed: u64) -> Result<Soc, SampleFault>
     requires seed { seed < 10 ^ 12 }
     ensures chip { IfOk result (λ soc. soc_value soc ≡ made_chip n seed) }
     ensures sound { IfOk result (λ soc. IsSoundChip (soc_value soc)) }
-    ensures power { IfOk result (λ soc. All (λ (l : LiveTest). l.test.power ≤ 99) (live_tests (soc_value soc))) }
+    ensures power { IfOk result
+        (λ soc. All (λ (l : LiveTest). l.test.power ≤ 99) (live_tests (soc_value soc))) }
     ensures size { (result ≡ Err (SampleFault.SampleSize n)) ↔ ((n ≡ 0) ⊎ (200 < n)) }
     ensures shown { (shown : ℕ) → result ≡ Err (SampleFault.SampleSize shown) → shown ≡ n }
 {

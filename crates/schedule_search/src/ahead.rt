@@ -34,7 +34,8 @@ impl<F: Fn(&Table<'_>, usize) -> u64> Ahead<F> {
     /// Keeps a closure. On each sound table and each test of the job that isn't placed, and that no placed test must
     /// follow, it can be called, and its answer is at least [`Table::ready_end`] and at most [`Table::end_now`].
     pub fn new(f: F) -> Ahead<F>
-        requires { IsEstimate (λ t test. F.pre f t test) (λ t test estimate. F.post f t test estimate) }
+        requires { IsEstimate (λ t test. F.pre f t test)
+            (λ t test estimate. F.post f t test estimate) }
         ensures { result ≡ f }
     {
         Ahead { estimate: f }
@@ -42,7 +43,8 @@ impl<F: Fn(&Table<'_>, usize) -> u64> Ahead<F> {
 }
 
 impl<'a, F: Fn(&Table<'_>, usize) -> u64> Estimate<&'a Job> for Ahead<F> {
-    ghost estimates = { λ a. IsEstimate (λ t test. F.pre a t test) (λ t test estimate. F.post a t test estimate) };
+    ghost estimates = { λ a. IsEstimate (λ t test. F.pre a t test)
+        (λ t test estimate. F.post a t test estimate) };
 
     fn ask(&self, table: &TableOf<&'a Job>, test: usize) -> u64 {
         (self.estimate)(table, test)

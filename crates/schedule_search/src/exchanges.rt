@@ -29,7 +29,8 @@ fn may_exchange(job: &Job, order: &[usize], place: usize) -> bool
     requires within { place + 1 < length order.now }
     requires topological { IsTopological (job_value job.now) order.now }
     ensures may { result ≡ true → IsTopological (job_value job.now) (exchanged order.now place) }
-    ensures may_not { result ≡ false → IsTopological (job_value job.now) (exchanged order.now place) → ⊥ }
+    ensures may_not { result ≡ false →
+        IsTopological (job_value job.now) (exchanged order.now place) → ⊥ }
 {
     !is_listed(&job.before, order[place], order[place + 1])
 }
@@ -49,7 +50,8 @@ fn exchange_at<J>(
     requires front { HasPlaced table.old (take place order.old) end }
     requires small { end ≤ 10 ^ 18 }
     requires topological { IsTopological (job_value job.now) order.old }
-    ensures fewer { IfSome result (TakesFewer (job_value job.now) (length order.old) cycles order.new) }
+    ensures fewer { IfSome result
+        (TakesFewer (job_value job.now) (length order.old) cycles order.new) }
     ensures stays { IfNone result (order.new ≡ order.old) }
     ensures no_gain { IfNone result (NoGainAt (job_value job.now) order.old place cycles) }
     ensures table { table.new ≡ table.old }
@@ -80,7 +82,8 @@ fn exchange_from<J>(
     requires front { HasPlaced table.old (take place order.old) end }
     requires small { end ≤ 10 ^ 18 }
     requires topological { IsTopological (job_value job.now) order.old }
-    ensures fewer { IfSome result (TakesFewer (job_value job.now) (length order.old) cycles order.new) }
+    ensures fewer { IfSome result
+        (TakesFewer (job_value job.now) (length order.old) cycles order.new) }
     ensures stays { IfNone result (order.new ≡ order.old) }
     ensures none_helps { IfNone result ((later : ℕ) → place ≤ later → later + 1 < length order.old →
         NoGainAt (job_value job.now) order.old later cycles) }
@@ -113,7 +116,8 @@ fn exchange_first<J>(
     requires job { table.old.job ≡ job_value job.now }
     requires empty { table.old.placed ≡ [] }
     requires topological { IsTopological (job_value job.now) order.old }
-    ensures fewer { IfSome result (TakesFewer (job_value job.now) (length order.old) cycles order.new) }
+    ensures fewer { IfSome result
+        (TakesFewer (job_value job.now) (length order.old) cycles order.new) }
     ensures stays { IfNone result (order.new ≡ order.old) }
     ensures none_helps { IfNone result (NoExchangeHelps (job_value job.now) order.old cycles) }
     ensures table { table.new ≡ table.old }

@@ -13,11 +13,13 @@ use resource_table::{Job, TableOf, list_schedules_are_short};
 pub(crate) fn place_next<J>(table: &mut TableOf<J>, test: usize) -> u64
     requires in_job { test < length table.old.job.tests }
     requires new { is_placed table.old.placed test ≡ false }
-    requires ready { (earlier : ℕ) → Precedes table.old.job earlier test → is_placed table.old.placed earlier ≡ true }
+    requires ready { (earlier : ℕ) → Precedes table.old.job earlier test →
+        is_placed table.old.placed earlier ≡ true }
     requires list { IsListSchedule table.old.job table.old.placed }
     ensures earliest { IsEarliest table.old.job table.old.placed test result }
     ensures ends { result + cycles_of table.old.job test ≤ 10 ^ 18 }
-    ensures table { table.new ≡ record table.old { placed = table.old.placed ++ at_start test result ∷ [] } }
+    ensures table { table.new
+        ≡ record table.old { placed = table.old.placed ++ at_start test result ∷ [] } }
 {
     list_schedules_are_short();
     let start = table.earliest(test);
@@ -41,7 +43,8 @@ fn place_rest<J>(
     requires first { HasPlaced table.old (take placed order.now) first_end }
     requires small { first_end ≤ 10 ^ 18 }
     ensures all { result < most → HasPlaced table.new order.now result }
-    ensures late { most ≤ result → (cycles : ℕ) → Takes (job_value job.now) order.now cycles → most ≤ cycles }
+    ensures late { most ≤ result → (cycles : ℕ) → Takes (job_value job.now) order.now cycles →
+        most ≤ cycles }
     ensures small { result ≤ 10 ^ 18 }
     ensures front { (rest : List Placement) × (table.new.placed ≡ table.old.placed ++ rest) }
     ensures job { table.new.job ≡ table.old.job }
@@ -75,7 +78,8 @@ pub(crate) fn fewer_cycles<J>(
     requires small { end ≤ 10 ^ 18 }
     ensures takes { IfSome result (λ cycles. Takes (job_value job.now) order.now cycles) }
     ensures fewer { IfSome result (λ cycles. cycles < most) }
-    ensures none { IfNone result ((cycles : ℕ) → Takes (job_value job.now) order.now cycles → most ≤ cycles) }
+    ensures none { IfNone result
+        ((cycles : ℕ) → Takes (job_value job.now) order.now cycles → most ≤ cycles) }
     ensures table { table.new ≡ table.old }
 {
     list_schedules_are_short();

@@ -41,10 +41,13 @@ fn wait_less(job: &Job, missing: &mut [usize], free: &mut Vec<usize>, test: usiz
     requires long { length missing.old ≡ length (job_value job.now).tests }
     requires in_job { test < length (job_value job.now).tests }
     requires some { 1 ≤ slice_index_or missing.old test 0 }
-    requires free { (prefix : List ℕ) × (is_in prefix test ≡ false) × (free.old.items ≡ all_free (job_value job.now) prefix missing.old) }
+    requires free { (prefix : List ℕ) × (is_in prefix test ≡ false)
+        × (free.old.items ≡ all_free (job_value job.now) prefix missing.old) }
     requires room { length (job_value job.now).tests ≤ vec_capacity free.old }
-    ensures missing { missing.new ≡ slice_set missing.old test (slice_index_or missing.old test 0 - 1) }
-    ensures free { (prefix : List ℕ) → is_in prefix test ≡ false → free.old.items ≡ all_free (job_value job.now) prefix missing.old →
+    ensures missing { missing.new
+        ≡ slice_set missing.old test (slice_index_or missing.old test 0 - 1) }
+    ensures free { (prefix : List ℕ) → is_in prefix test ≡ false →
+        free.old.items ≡ all_free (job_value job.now) prefix missing.old →
         free.new.items ≡ all_free (job_value job.now) prefix missing.new }
     ensures room { vec_capacity free.new ≡ vec_capacity free.old }
 {
@@ -60,9 +63,12 @@ fn wait_more(job: &Job, missing: &mut [usize], free: &mut Vec<usize>, test: usiz
     requires long { length missing.old ≡ length (job_value job.now).tests }
     requires in_job { test < length (job_value job.now).tests }
     requires small { slice_index_or missing.old test 0 + 1 < 2 ^ 64 }
-    requires free { (prefix : List ℕ) × (is_in prefix test ≡ false) × (free.old.items ≡ all_free (job_value job.now) prefix missing.old) }
-    ensures missing { missing.new ≡ slice_set missing.old test (slice_index_or missing.old test 0 + 1) }
-    ensures free { (prefix : List ℕ) → is_in prefix test ≡ false → free.old.items ≡ all_free (job_value job.now) prefix missing.old →
+    requires free { (prefix : List ℕ) × (is_in prefix test ≡ false)
+        × (free.old.items ≡ all_free (job_value job.now) prefix missing.old) }
+    ensures missing { missing.new
+        ≡ slice_set missing.old test (slice_index_or missing.old test 0 + 1) }
+    ensures free { (prefix : List ℕ) → is_in prefix test ≡ false →
+        free.old.items ≡ all_free (job_value job.now) prefix missing.old →
         free.new.items ≡ all_free (job_value job.now) prefix missing.new }
     ensures room { vec_capacity free.new ≡ vec_capacity free.old }
 {
@@ -78,11 +84,14 @@ fn wait_more(job: &Job, missing: &mut [usize], free: &mut Vec<usize>, test: usiz
 fn count_down(job: &Job, missing: &mut [usize], free: &mut Vec<usize>, tests: &[usize])
     requires long { length missing.old ≡ length (job_value job.now).tests }
     requires in_range { All (λ test. test < length missing.old) tests.now }
-    requires enough { (n : ℕ) → n < length missing.old → times_in tests.now n ≤ slice_index_or missing.old n 0 }
-    requires free { (prefix : List ℕ) × AreApart prefix tests.now × (free.old.items ≡ all_free (job_value job.now) prefix missing.old) }
+    requires enough { (n : ℕ) → n < length missing.old →
+        times_in tests.now n ≤ slice_index_or missing.old n 0 }
+    requires free { (prefix : List ℕ) × AreApart prefix tests.now
+        × (free.old.items ≡ all_free (job_value job.now) prefix missing.old) }
     requires room { length (job_value job.now).tests ≤ vec_capacity free.old }
     ensures less { AreLess missing.old missing.new tests.now }
-    ensures free { (prefix : List ℕ) → AreApart prefix tests.now → free.old.items ≡ all_free (job_value job.now) prefix missing.old →
+    ensures free { (prefix : List ℕ) → AreApart prefix tests.now →
+        free.old.items ≡ all_free (job_value job.now) prefix missing.old →
         free.new.items ≡ all_free (job_value job.now) prefix missing.new }
     ensures room { vec_capacity free.new ≡ vec_capacity free.old }
 {
@@ -96,10 +105,13 @@ fn count_down(job: &Job, missing: &mut [usize], free: &mut Vec<usize>, tests: &[
 fn count_up(job: &Job, missing: &mut [usize], free: &mut Vec<usize>, tests: &[usize])
     requires long { length missing.old ≡ length (job_value job.now).tests }
     requires in_range { All (λ test. test < length missing.old) tests.now }
-    requires small { (n : ℕ) → n < length missing.old → slice_index_or missing.old n 0 + times_in tests.now n < 2 ^ 64 }
-    requires free { (prefix : List ℕ) × AreApart prefix tests.now × (free.old.items ≡ all_free (job_value job.now) prefix missing.old) }
+    requires small { (n : ℕ) → n < length missing.old →
+        slice_index_or missing.old n 0 + times_in tests.now n < 2 ^ 64 }
+    requires free { (prefix : List ℕ) × AreApart prefix tests.now
+        × (free.old.items ≡ all_free (job_value job.now) prefix missing.old) }
     ensures less { AreLess missing.new missing.old tests.now }
-    ensures free { (prefix : List ℕ) → AreApart prefix tests.now → free.old.items ≡ all_free (job_value job.now) prefix missing.old →
+    ensures free { (prefix : List ℕ) → AreApart prefix tests.now →
+        free.old.items ≡ all_free (job_value job.now) prefix missing.old →
         free.new.items ≡ all_free (job_value job.now) prefix missing.new }
     ensures room { vec_capacity free.new ≡ vec_capacity free.old }
 {
@@ -112,7 +124,8 @@ fn count_up(job: &Job, missing: &mut [usize], free: &mut Vec<usize>, tests: &[us
 fn fill_free(free: &mut Vec<usize>, tests: &[usize], missing: &[usize])
     requires in_range { All (λ test. test < length missing.now) tests.now }
     requires room { length tests.now ≤ vec_capacity free.old }
-    ensures items { free.new.items ≡ filter (λ test. nat_eq (slice_index_or missing.now test 0) 0) tests.now }
+    ensures items { free.new.items
+        ≡ filter (λ test. nat_eq (slice_index_or missing.now test 0) 0) tests.now }
     ensures room { vec_capacity free.new ≡ vec_capacity free.old }
 {
     free.clear();
@@ -125,7 +138,8 @@ fn fill_free(free: &mut Vec<usize>, tests: &[usize], missing: &[usize])
 
 /// Whether a test stands at a place among some tests.
 fn stands_at(tests: &[usize], place: usize, test: usize) -> bool
-    ensures { result ≡ true → (place < length tests.now) × (slice_index_or tests.now place 0 ≡ test) }
+    ensures { result ≡ true →
+        (place < length tests.now) × (slice_index_or tests.now place 0 ≡ test) }
 {
     place < tests.len() && tests[place] == test
 }
@@ -146,11 +160,13 @@ fn place_left(job: &Job, rest: &[usize], near: usize, test: usize) -> usize
 /// Puts a test back to its place among those that are left, and takes another one out. Where none between them waits, that stands
 /// next to it, and nothing has to move. Answers its place.
 fn pass_left(job: &Job, rest: &mut Vec<usize>, left: usize, test: usize, next: usize) -> usize
-    requires out { (path : List ℕ) × (rest.old.items ≡ remove (outside (job_value job.now) path) left)
+    requires out { (path : List ℕ)
+        × (rest.old.items ≡ remove (outside (job_value job.now) path) left)
         × (slice_get (outside (job_value job.now) path) left ≡ Some test) × (k : ℕ)
         × (slice_get (outside (job_value job.now) path) k ≡ Some next) }
     requires room { length rest.old.items < vec_capacity rest.old }
-    ensures out { (path : List ℕ) → rest.old.items ≡ remove (outside (job_value job.now) path) left →
+    ensures out { (path : List ℕ) →
+        rest.old.items ≡ remove (outside (job_value job.now) path) left →
         slice_get (outside (job_value job.now) path) left ≡ Some test →
         (k : ℕ) × (slice_get (outside (job_value job.now) path) k ≡ Some next) →
         (rest.new.items ≡ remove (outside (job_value job.now) path) result)
@@ -230,7 +246,8 @@ impl Prefix {
         requires in_range { AreInRange (job_value job.now) }
         requires at { IsAt (job_value job.now) self.old.tests.items self.old }
         requires some { 0 < length self.old.free.items }
-        ensures { IsAt (job_value job.now) (self.old.tests.items ++ slice_index_or self.old.free.items 0 0 ∷ []) self.new }
+        ensures { IsAt (job_value job.now)
+            (self.old.tests.items ++ slice_index_or self.old.free.items 0 0 ∷ []) self.new }
     {
         let taken = self.take_out(job, 0);
         self.append(job, tries, taken.test);
@@ -242,7 +259,8 @@ impl Prefix {
         requires in_range { AreInRange (job_value job.now) }
         requires at { IsAt (job_value job.now) self.old.tests.items self.old }
         requires some { 0 < length self.old.tests.items }
-        ensures { (path : List ℕ) (test : ℕ) → self.old.tests.items ≡ path ++ test ∷ [] → IsOut (job_value job.now) path test self.new }
+        ensures { (path : List ℕ) (test : ℕ) → self.old.tests.items ≡ path ++ test ∷ [] →
+            IsOut (job_value job.now) path test self.new }
     {
         let test = self.tests.take_last();
         count_up(

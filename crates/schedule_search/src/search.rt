@@ -64,7 +64,8 @@ impl<'a, F> Model for Search<'a, F> {
 
     ghost Value = { SearchValue F };
 
-    ghost view = { λ s. record { job = job_value s.job.now; budget = s.tries.budget; ahead = s.ahead } };
+    ghost view = { λ s. record
+        { job = job_value s.job.now; budget = s.tries.budget; ahead = s.ahead } };
 
     ghost invariant = { λ s. IsKept (job_value s.job.now) s.table s.tries s.first s.room };
 }
@@ -113,7 +114,8 @@ fn improve_best<J>(job: &Job, table: &mut TableOf<J>, progress: &mut Progress)
     requires job { table.old.job ≡ job_value job.now }
     requires empty { table.old.placed ≡ [] }
     requires best { IsBest (job_value job.now) (stand_of progress.old) }
-    ensures improved { IsImproved (job_value job.now) (stand_of progress.old) (stand_of progress.new) }
+    ensures improved { IsImproved (job_value job.now) (stand_of progress.old)
+        (stand_of progress.new) }
     ensures table { table.new ≡ table.old }
     ensures room { vec_capacity progress.new.best ≡ vec_capacity progress.old.best }
 {
@@ -174,8 +176,8 @@ fn search_all<J, E: Estimate<J>>(
     requires estimates { E.estimates ahead.now }
     requires first { IsFirstOrder (job_value job.now) first.now }
     requires room { HasRoom (length (job_value job.now).tests) room.old }
-    ensures found { IsFound (job_value job.now) tries.now.budget room.new.progress.best.items room.new.starts.items room.new.progress.cycles
-        (not room.new.progress.refused) }
+    ensures found { IsFound (job_value job.now) tries.now.budget room.new.progress.best.items
+        room.new.starts.items room.new.progress.cycles (not room.new.progress.refused) }
     ensures table { table.new ≡ table.old }
     ensures room { HasRoom (length (job_value job.now).tests) room.new }
 {
@@ -256,7 +258,8 @@ impl<'a, F: Fn(&Table<'_>, usize) -> u64> Search<'a, F> {
     where
         F: Drop,
         requires { IsSoundJob (job_value job.now) }
-        ensures { IfOk result (λ s. s ≡ record { job = job_value job.now; budget = budget; ahead = ahead }) }
+        ensures { IfOk result
+            (λ s. s ≡ record { job = job_value job.now; budget = budget; ahead = ahead }) }
     {
         let (table, tries, first, room) = kept_for(alloc, job, budget)?;
         Ok(Search {
@@ -273,9 +276,11 @@ impl<'a, F: Fn(&Table<'_>, usize) -> u64> Search<'a, F> {
     /// first, as long as prefixes may be entered; last, up to 64 tests, neighbours of the best order are exchanged as
     /// long as that gives fewer cycles. Each call begins anew.
     pub fn run(&mut self) -> Found<'_>
-        requires { IsEstimate (λ t test. F.pre self.old.ahead t test) (λ t test estimate. F.post self.old.ahead t test estimate) }
+        requires { IsEstimate (λ t test. F.pre self.old.ahead t test)
+            (λ t test estimate. F.post self.old.ahead t test estimate) }
         ensures* keeps { sem 𝓛 (Keeps F.row self.entry) }
-        ensures found { IsFound self.old.job self.old.budget result.order.now result.starts.now result.cycles result.complete }
+        ensures found { IsFound self.old.job self.old.budget result.order.now result.starts.now
+            result.cycles result.complete }
     {
         search_all(
             self.job,

@@ -44,7 +44,8 @@ pub(crate) fn put_in(job: &Job, tests: &mut Vec<usize>, test: usize)
     requires sorted { AreSorted (job_value job.now) tests.old.items }
     requires in_job { test < length (job_value job.now).tests }
     requires room { length tests.old.items < vec_capacity tests.old }
-    ensures put { (p q : ℕ → Bool) → IsWithout p q test → p test ≡ true → tests.old.items ≡ filter q (by_length (job_value job.now)) →
+    ensures put { (p q : ℕ → Bool) → IsWithout p q test → p test ≡ true →
+        tests.old.items ≡ filter q (by_length (job_value job.now)) →
         tests.new.items ≡ filter p (by_length (job_value job.now)) }
     ensures room { vec_capacity tests.new ≡ vec_capacity tests.old }
 {
@@ -56,7 +57,8 @@ pub(crate) fn put_in(job: &Job, tests: &mut Vec<usize>, test: usize)
 pub(crate) fn take_out(job: &Job, tests: &mut Vec<usize>, test: usize)
     requires sorted { AreSorted (job_value job.now) tests.old.items }
     requires there { (k : ℕ) × (slice_get tests.old.items k ≡ Some test) }
-    ensures taken { (p q : ℕ → Bool) → IsWithout p q test → tests.old.items ≡ filter p (by_length (job_value job.now)) →
+    ensures taken { (p q : ℕ → Bool) → IsWithout p q test →
+        tests.old.items ≡ filter p (by_length (job_value job.now)) →
         tests.new.items ≡ filter q (by_length (job_value job.now)) }
     ensures room { vec_capacity tests.new ≡ vec_capacity tests.old }
 {

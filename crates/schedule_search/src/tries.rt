@@ -40,7 +40,8 @@ pub(crate) struct TriedTest {
 
 /// The tests of a job by their cycles and places, in the order in which they are tried.
 fn sorted_turns(alloc: Global, job: &Job) -> Result<Vec<TriedTest>, NoMemory>
-    ensures { IfOk result (λ turns. map (λ (t : TriedTest). t.place) turns.items ≡ by_length_of (job_value job.now)) }
+    ensures { IfOk result
+        (λ turns. map (λ (t : TriedTest). t.place) turns.items ≡ by_length_of (job_value job.now)) }
 {
     let mut turns = Vec::new(alloc);
     for place in 0..job.tests.len() {

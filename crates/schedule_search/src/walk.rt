@@ -50,7 +50,8 @@ fn enter_prefix(progress: &mut Progress, budget: u64) -> bool
     requires { progress.old.entered ≤ budget }
     ensures entered { result ≡ true → (progress.old.entered < budget)
         × (progress.new ≡ record progress.old { entered = progress.old.entered + 1 }) }
-    ensures refused { result ≡ false → (progress.old.entered ≡ budget) × (progress.new ≡ record progress.old { refused = true }) }
+    ensures refused { result ≡ false →
+        (progress.old.entered ≡ budget) × (progress.new ≡ record progress.old { refused = true }) }
 {
     if progress.entered == budget {
         progress.refused = true;
@@ -101,9 +102,11 @@ fn ends_late<J, E: Estimate<J>>(
     requires job { table.old.job ≡ job_value job.now }
     requires estimates { E.estimates ahead.now }
     requires asked { CanAsk table.old test }
-    ensures late { result ≡ true → (start : ℕ) → IsEarliest table.old.job table.old.placed test start →
+    ensures late { result ≡ true → (start : ℕ) →
+        IsEarliest table.old.job table.old.placed test start →
         cycles ≤ start + cycles_of table.old.job test }
-    ensures in_time { result ≡ false → ready_at table.old.job table.old.placed test + cycles_of table.old.job test < cycles }
+    ensures in_time { result ≡ false →
+        ready_at table.old.job table.old.placed test + cycles_of table.old.job test < cycles }
     ensures same { table.new ≡ table.old }
 {
     let start = table.noted_start(test);
@@ -185,7 +188,8 @@ fn is_in_time<J>(
     requires in_job { test < length table.now.job.tests }
     requires calm { IfSome calm (IsCalm table.now.job table.now.placed most) }
     requires at_last { IfSome calm (λ from. from ≤ last_end table.now.job table.now.placed) }
-    ensures { result ≡ true → ready_at table.now.job table.now.placed test + cycles_of table.now.job test < cycles }
+    ensures { result ≡ true →
+        ready_at table.now.job table.now.placed test + cycles_of table.now.job test < cycles }
 {
     let Some(from) = calm else {
         return false;
@@ -225,9 +229,11 @@ fn ends_late_after<J, E: Estimate<J>>(
     requires seen { IfSome by.seen (IsSeen table.old) }
     requires calm { IfSome calm (IsCalm table.old.job table.old.placed by.most) }
     requires at_last { IfSome calm (λ from. from ≤ last_end table.old.job table.old.placed) }
-    ensures late { result ≡ true → (start : ℕ) → IsEarliest table.old.job table.old.placed test start →
+    ensures late { result ≡ true → (start : ℕ) →
+        IsEarliest table.old.job table.old.placed test start →
         by.cycles ≤ start + cycles_of table.old.job test }
-    ensures in_time { result ≡ false → ready_at table.old.job table.old.placed test + cycles_of table.old.job test < by.cycles }
+    ensures in_time { result ≡ false →
+        ready_at table.old.job table.old.placed test + cycles_of table.old.job test < by.cycles }
     ensures same { table.new ≡ table.old }
 {
     if is_still_in_time(job, by.seen, test, by.cycles) {
@@ -344,7 +350,8 @@ fn seen_beside(job: &Job, tries: &OrderTables, test: usize, cycles: u64) -> Opti
     requires tries { AreTries (job_value job.now) tries.now }
     requires in_job { test < length (job_value job.now).tests }
     ensures seen { IfSome result (λ s. s ≡ record { test = test; cycles = cycles }) }
-    ensures precedes_none { IfSome result (λ s. (later : ℕ) → Precedes (job_value job.now) test later → ⊥) }
+    ensures precedes_none { IfSome result
+        (λ s. (later : ℕ) → Precedes (job_value job.now) test later → ⊥) }
 {
     if job.power.is_some() {
         return None;
@@ -399,16 +406,20 @@ fn go_on<J, E: Estimate<J>>(
     requires within { progress.old.entered ≤ tries.now.budget }
     requires opened { IsOpen (job_value job.now) (prefix.old.tests.items ++ next.test ∷ []) }
     requires best { IsBest (job_value job.now) (stand_of progress.old) }
-    requires none_before { NoneBefore (job_value job.now) (prefix.old.tests.items ++ next.test ∷ []) progress.old.best.items }
+    requires none_before { NoneBefore (job_value job.now) (prefix.old.tests.items ++ next.test ∷ [])
+        progress.old.best.items }
     ensures table { table.new ≡ table.old }
-    ensures out { progress.new.refused ≡ false → IsOut (job_value job.now) prefix.old.tests.items next.test prefix.new }
+    ensures out { progress.new.refused ≡ false →
+        IsOut (job_value job.now) prefix.old.tests.items next.test prefix.new }
     ensures room { HasPrefixRoom (length (job_value job.now).tests) prefix.new }
     ensures best_room { vec_capacity progress.new.best ≡ vec_capacity progress.old.best }
     ensures within { progress.new.entered ≤ tries.now.budget }
     ensures best { IsBest (job_value job.now) (stand_of progress.new) }
     ensures explored { Explored (job_value job.now) tries.now.budget
-        (walk_from (job_value job.now) (length (job_value job.now).tests - length prefix.old.tests.items - 1)
-        (prefix.old.tests.items ++ next.test ∷ [])) (stand_of progress.old) (stand_of progress.new) }
+        (walk_from (job_value job.now)
+        (length (job_value job.now).tests - length prefix.old.tests.items - 1)
+        (prefix.old.tests.items ++ next.test ∷ [])) (stand_of progress.old)
+        (stand_of progress.new) }
 {
     list_schedules_are_short();
     let start = table.noted_start(next.test);
@@ -451,16 +462,19 @@ pub(crate) fn explore_orders<J, E: Estimate<J>>(
     requires within { progress.old.entered ≤ tries.now.budget }
     requires opened { IsOpen (job_value job.now) prefix.old.tests.items }
     requires best { IsBest (job_value job.now) (stand_of progress.old) }
-    requires none_before { NoneBefore (job_value job.now) prefix.old.tests.items progress.old.best.items }
+    requires none_before { NoneBefore (job_value job.now) prefix.old.tests.items
+        progress.old.best.items }
     ensures table { table.new ≡ table.old }
-    ensures at { progress.new.refused ≡ false → IsAt (job_value job.now) prefix.old.tests.items prefix.new }
+    ensures at { progress.new.refused ≡ false →
+        IsAt (job_value job.now) prefix.old.tests.items prefix.new }
     ensures room { HasPrefixRoom (length (job_value job.now).tests) prefix.new }
     ensures best_room { vec_capacity progress.new.best ≡ vec_capacity progress.old.best }
     ensures within { progress.new.entered ≤ tries.now.budget }
     ensures best { IsBest (job_value job.now) (stand_of progress.new) }
     ensures explored { Explored (job_value job.now) tries.now.budget
-        (walk_from (job_value job.now) (length (job_value job.now).tests - length prefix.old.tests.items) prefix.old.tests.items)
-        (stand_of progress.old) (stand_of progress.new) }
+        (walk_from (job_value job.now)
+        (length (job_value job.now).tests - length prefix.old.tests.items)
+        prefix.old.tests.items) (stand_of progress.old) (stand_of progress.new) }
 {
     if !enter_prefix(progress, tries.budget) {
         return;

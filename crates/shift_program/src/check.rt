@@ -63,21 +63,29 @@ pub fn check_program(
     program: &Program,
     room: &mut ProgramRoom,
 ) -> Result<u128, ProgramFault>
-    requires proper { IsProper (module_value «module».now) wrapper.now.scan (map chain_value wrapper.now.chains.items) }
+    requires proper { IsProper (module_value «module».now) wrapper.now.scan
+        (map chain_value wrapper.now.chains.items) }
     requires small { module_size (module_value «module».now) ≤ 10 ^ 18 }
     requires live { 1 ≤ test.now.patterns }
     requires lasting { All IsLasting program.now.entries.items }
     requires room { length program.now.entries.items ≤ room.old }
-    ensures right { OnOk result (AreRight (wrapped_test (module_value «module».now) test.now (wrapper_value wrapper.now))
+    ensures right { OnOk result
+        (AreRight (wrapped_test (module_value «module».now) test.now (wrapper_value wrapper.now))
         (operations program.now.entries.items)) }
-    ensures exact { AreRight (wrapped_test (module_value «module».now) test.now (wrapper_value wrapper.now))
+    ensures exact { AreRight
+        (wrapped_test (module_value «module».now) test.now (wrapper_value wrapper.now))
         (operations program.now.entries.items) → IsOk result }
     ensures operations { IfOk result (λ n. n ≡ length (operations program.now.entries.items)) }
-    ensures least { IfOk result (λ n. let chains = (wrapped_test (module_value «module».now) test.now (wrapper_value wrapper.now)).chains
-        in length (ops_of «module».now.setup (si_of chains) (so_of chains) test.now.patterns) ≤ n) }
-    ensures fault { IfErr result (IsFault (needed_for (wrapped_test (module_value «module».now) test.now (wrapper_value wrapper.now)))
+    ensures least { IfOk result (λ n. let chains =
+        (wrapped_test (module_value «module».now) test.now (wrapper_value wrapper.now)).chains in
+        length (ops_of «module».now.setup (si_of chains) (so_of chains) test.now.patterns) ≤ n) }
+    ensures fault { IfErr result (IsFault
+        (needed_for (wrapped_test (module_value «module».now) test.now (wrapper_value wrapper.now)))
         program.now.entries.items) }
-    ensures only { (f : ProgramFault) → IsFault (needed_for (wrapped_test (module_value «module».now) test.now (wrapper_value wrapper.now)))
+    ensures only { (f : ProgramFault) →
+        IsFault
+        (needed_for
+        (wrapped_test (module_value «module».now) test.now (wrapper_value wrapper.now)))
         program.now.entries.items f → result ≡ Err f }
     ensures room { room.old ≤ room.new }
 {

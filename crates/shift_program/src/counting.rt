@@ -165,10 +165,12 @@ fn put_pattern(seen: &mut IndexSet<u64>, pattern: u64)
 
 /// Notes the pattern that an entry captures.
 fn note_capture(seen: &mut IndexSet<u64>, entry: Entry)
-    requires new { (k : ℕ) → patterns_of entry ≡ k ∷ [] → list_any (nat_eq k) (keys seen.old) ≡ false }
+    requires new { (k : ℕ) → patterns_of entry ≡ k ∷ [] →
+        list_any (nat_eq k) (keys seen.old) ≡ false }
     requires space { 0 < spare seen.old }
     ensures filled { keys seen.new ≡ keys seen.old ++ patterns_of entry }
-    ensures space_left { length (keys seen.old) + spare seen.old ≤ length (keys seen.new) + spare seen.new }
+    ensures space_left { length (keys seen.old) + spare seen.old
+        ≤ length (keys seen.new) + spare seen.new }
 {
     match entry {
         Entry::Rest { .. } | Entry::Shift { .. } => {}
@@ -186,7 +188,8 @@ pub fn count_operations(
     ensures operations { IfOk result (λ n. n ≡ length (operations entries.now)) }
     ensures faultless { OnOk result (IsFaultless (needed_by need.now) entries.now) }
     ensures fault { IfErr result (IsFault (needed_by need.now) entries.now) }
-    ensures space_left { length (keys seen.old) + spare seen.old ≤ length (keys seen.new) + spare seen.new }
+    ensures space_left { length (keys seen.old) + spare seen.old
+        ≤ length (keys seen.new) + spare seen.new }
 {
     seen.clear();
     let mut passed = Passed {

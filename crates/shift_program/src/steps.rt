@@ -115,7 +115,8 @@ fn step_form(draft: &mut Draft, n: u64) -> Result<Part, Stop>
 
 /// The cycles of a Rest or of Shifts, at least one.
 fn step_cycles(draft: &mut Draft, shifts: bool, n: u64) -> Result<Part, Stop>
-    ensures { Steps (steps_number (draft_value draft.old) (Part.WantsCycles shifts) n) result draft.new }
+    ensures { Steps (steps_number (draft_value draft.old) (Part.WantsCycles shifts) n) result
+        draft.new }
 {
     if n < 1 {
         return Err(Stop::Refused);

@@ -137,7 +137,8 @@ impl Soc {
 
     /// A chip without a name and without modules, with both flags false.
     pub fn new(alloc: Global) -> Soc
-        ensures { soc_value result ≡ record { name = []; power_flag = false; xy_flag = false; keys = []; modules = [] } }
+        ensures { soc_value result
+            ≡ record { name = []; power_flag = false; xy_flag = false; keys = []; modules = [] } }
     {
         Soc {
             name: Vec::new(alloc),

@@ -93,10 +93,12 @@ fn scan_cells(chains: &[u64]) -> u128
 /// One, and the module's input cells, its output cells and twice its scan cells: what a pattern of a test weighs in the work of a
 /// chip.
 pub fn cells_and_one(module: &Module) -> u128
-    requires terminals { «module».now.inputs + «module».now.outputs + «module».now.bidirs < 10 ^ 13 }
+    requires terminals { «module».now.inputs + «module».now.outputs + «module».now.bidirs
+        < 10 ^ 13 }
     requires small { All (λ n. n < NUMBER_WORD_MOST + 1) «module».now.chains.items }
     requires few { length «module».now.chains.items ≤ 1000 }
-    ensures cells { let m = «module».now in result ≡ 1 + (m.inputs + m.bidirs) + (m.outputs + m.bidirs) + 2 * sum m.chains.items }
+    ensures cells { let m = «module».now in result ≡ 1 + (m.inputs + m.bidirs) +
+        (m.outputs + m.bidirs) + 2 * sum m.chains.items }
     ensures bounded { result < 10 ^ 16 }
 {
     let inputs = u128::from(module.inputs) + u128::from(module.bidirs);
@@ -121,7 +123,8 @@ fn module_work(module: &Module) -> u128
     requires small { HasSmall (module_value «module».now) }
     requires chains { length «module».now.chains.items ≤ 1000 }
     requires tests { length «module».now.tests.items ≤ 4096 }
-    ensures work { let m = module_value «module».now in result ≡ sum_by (test_work m) (filter is_live m.tests) }
+    ensures work { let m = module_value «module».now in result ≡ sum_by (test_work m)
+        (filter is_live m.tests) }
     ensures bounded { result ≤ 10 ^ 32 }
 {
     let cells = cells_and_one(module);
@@ -152,7 +155,8 @@ fn total_work(soc: &Soc) -> u128
 /// The number that passes a limit, where one does; the earlier limits are kept.
 fn passed_number(soc: &Soc, which: Which) -> Option<u128>
     requires small { HasSmallNumbers (soc_value soc.now) }
-    requires earlier { (w : Which) → rank_of w < rank_of which → passed (soc_value soc.now) w ≡ None }
+    requires earlier { (w : Which) → rank_of w < rank_of which →
+        passed (soc_value soc.now) w ≡ None }
     ensures { result ≡ passed (soc_value soc.now) which }
 {
     match which {

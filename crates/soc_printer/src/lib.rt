@@ -31,7 +31,8 @@ fn push_count(text: &mut Vec<u8>, number: u64) -> Result<(), NoMemory>
 
 /// Appends a keyword with a number.
 fn push_entry(text: &mut Vec<u8>, key: &[u8], number: u64) -> Result<(), NoMemory>
-    ensures { OnOk result (text.new.items ≡ text.old.items ++ spaced (key.now ∷ decimal number ∷ [])) }
+    ensures { OnOk result
+        (text.new.items ≡ text.old.items ++ spaced (key.now ∷ decimal number ∷ [])) }
 {
     push_word(text, key)?;
     push_count(text, number)
@@ -39,7 +40,8 @@ fn push_entry(text: &mut Vec<u8>, key: &[u8], number: u64) -> Result<(), NoMemor
 
 /// Appends a keyword with a flag.
 fn push_flag(text: &mut Vec<u8>, key: &[u8], flag: bool) -> Result<(), NoMemory>
-    ensures { OnOk result (text.new.items ≡ text.old.items ++ spaced (key.now ∷ flag_word flag ∷ [])) }
+    ensures { OnOk result
+        (text.new.items ≡ text.old.items ++ spaced (key.now ∷ flag_word flag ∷ [])) }
 {
     push_word(text, key)?;
     push(text, b' ')?;
@@ -89,7 +91,8 @@ fn push_name(text: &mut Vec<u8>, name: &[u8]) -> Result<(), NoMemory>
 
 /// Appends the counts of a module's terminals.
 fn push_terminals(text: &mut Vec<u8>, module: &Module) -> Result<(), NoMemory>
-    ensures { OnOk result (text.new.items ≡ text.old.items ++ spaced (terminal_words (module_value «module».now))) }
+    ensures { OnOk result
+        (text.new.items ≡ text.old.items ++ spaced (terminal_words (module_value «module».now))) }
 {
     push_entry(text, b"Inputs", module.inputs)?;
     push_entry(text, b"Outputs", module.outputs)?;
@@ -129,7 +132,8 @@ fn push_lengths(text: &mut Vec<u8>, lengths: &[u64]) -> Result<(), NoMemory>
 
 /// Appends what follows `Module` on the line of a module, up to the number of its scan chains.
 fn push_module_words(text: &mut Vec<u8>, module: &Module) -> Result<(), NoMemory>
-    ensures { OnOk result (text.new.items ≡ text.old.items ++ spaced (module_words (module_value «module».now))) }
+    ensures { OnOk result
+        (text.new.items ≡ text.old.items ++ spaced (module_words (module_value «module».now))) }
 {
     push_count(text, module.number)?;
     push_name(text, &module.name)?;
@@ -141,7 +145,8 @@ fn push_module_words(text: &mut Vec<u8>, module: &Module) -> Result<(), NoMemory
 
 /// Appends the line of a module.
 fn push_module_line(text: &mut Vec<u8>, module: &Module) -> Result<(), NoMemory>
-    ensures { OnOk result (text.new.items ≡ text.old.items ++ module_line (module_value «module».now)) }
+    ensures { OnOk result
+        (text.new.items ≡ text.old.items ++ module_line (module_value «module».now)) }
 {
     extend(text, b"Module")?;
     push_module_words(text, module)?;
@@ -161,8 +166,10 @@ fn push_tests_line(text: &mut Vec<u8>, number: u64, tests: usize) -> Result<(), 
 
 /// Appends whether a test uses scan chains, and whether it uses wires. Most of a text is lines of tests, so both words go at once.
 fn push_uses(text: &mut Vec<u8>, scan: bool, tam: bool) -> Result<(), NoMemory>
-    ensures { OnOk result (text.new.items ≡ text.old.items
-        ++ (spaced (codes "ScanUse" ∷ flag_word scan ∷ []) ++ spaced (codes "TamUse" ∷ flag_word tam ∷ []))) }
+    ensures { OnOk result (text.new.items
+        ≡ text.old.items
+        ++ (spaced (codes "ScanUse" ∷ flag_word scan ∷ [])
+        ++ spaced (codes "TamUse" ∷ flag_word tam ∷ []))) }
 {
     match (scan, tam) {
         (true, true) => extend(text, b" ScanUse 1 TamUse 1"),
@@ -187,7 +194,8 @@ fn push_test_line(text: &mut Vec<u8>, number: u64, test: &Test) -> Result<(), No
 
 /// Appends the lines of tests.
 fn push_test_lines(text: &mut Vec<u8>, number: u64, tests: &[Test]) -> Result<(), NoMemory>
-    ensures { OnOk result (text.new.items ≡ text.old.items ++ flat_map (test_line number) tests.now) }
+    ensures { OnOk result
+        (text.new.items ≡ text.old.items ++ flat_map (test_line number) tests.now) }
 {
     for test in tests {
         push_test_line(text, number, test)?;
@@ -197,7 +205,8 @@ fn push_test_lines(text: &mut Vec<u8>, number: u64, tests: &[Test]) -> Result<()
 
 /// Appends the lines of a module and its tests.
 fn push_module(text: &mut Vec<u8>, module: &Module) -> Result<(), NoMemory>
-    ensures { OnOk result (text.new.items ≡ text.old.items ++ module_text (module_value «module».now)) }
+    ensures { OnOk result
+        (text.new.items ≡ text.old.items ++ module_text (module_value «module».now)) }
 {
     push_module_line(text, module)?;
     push_tests_line(text, module.number, module.tests.len())?;
@@ -206,7 +215,8 @@ fn push_module(text: &mut Vec<u8>, module: &Module) -> Result<(), NoMemory>
 
 /// Appends the lines of all modules.
 fn push_modules(text: &mut Vec<u8>, soc: &Soc) -> Result<(), NoMemory>
-    ensures { OnOk result (text.new.items ≡ text.old.items ++ flat_map module_text (soc_value soc.now).modules) }
+    ensures { OnOk result
+        (text.new.items ≡ text.old.items ++ flat_map module_text (soc_value soc.now).modules) }
 {
     for module in soc.modules.values() {
         push_module(text, module)?;
@@ -217,7 +227,8 @@ fn push_modules(text: &mut Vec<u8>, soc: &Soc) -> Result<(), NoMemory>
 /// The text of a chip, line by line. What is printed of a sound chip is read as that chip again.
 pub fn print_soc(alloc: Global, soc: &Soc) -> Result<Vec<u8>, NoMemory>
     ensures printed { IfOk result (λ text. text.items ≡ soc_text (soc_value soc.now)) }
-    ensures read_back { IfOk result (λ text. IsSoundChip (soc_value soc.now) → SaysChip text.items (soc_value soc.now)) }
+    ensures read_back { IfOk result
+        (λ text. IsSoundChip (soc_value soc.now) → SaysChip text.items (soc_value soc.now)) }
 {
     let mut text = Vec::new(alloc);
     push_name_line(&mut text, &soc.name)?;

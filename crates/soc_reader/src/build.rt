@@ -93,7 +93,8 @@ fn give_test_at(
     value: &ReadValue<'_>,
 )
     requires { IsNumbered numbers.now tests.old.items }
-    ensures { tests.new.items ≡ tests_at number (test_says key (value_of value.now)) tests.old.items }
+    ensures { tests.new.items
+        ≡ tests_at number (test_says key (value_of value.now)) tests.old.items }
 {
     if let Some(place) = test_place(numbers, number) {
         give_test(&mut tests[place], key, value);
@@ -122,7 +123,8 @@ fn give_module(
     value: &ReadValue<'_>,
 ) -> Result<(), NoMemory>
     requires { IsNumbered numbers.old found.old.tests.items }
-    ensures given { OnOk result (module_value found.new ≡ module_says key (value_of value.now) (module_value found.old)) }
+    ensures given { OnOk result
+        (module_value found.new ≡ module_says key (value_of value.now) (module_value found.old)) }
     ensures numbered { OnOk result (IsNumbered numbers.new found.new.tests.items) }
 {
     match (key, value) {
@@ -141,7 +143,8 @@ fn give_module(
 
 /// What a keyword and a list say of a module.
 fn give_chains(found: &mut Module, key: Key, list: Vec<u64>)
-    ensures given { module_value found.new ≡ module_says key (lengths list.items) (module_value found.old) }
+    ensures given { module_value found.new
+        ≡ module_says key (lengths list.items) (module_value found.old) }
     ensures tests { found.new.tests ≡ found.old.tests }
 {
     match key {
@@ -174,7 +177,8 @@ fn has_module(soc: &Soc, number: u64) -> bool
 /// Adds a module where it is new. One that is there already takes no memory.
 fn add_module(draft: &mut Draft, number: u64) -> Result<(), NoMemory>
     requires { IsIndexed draft.old }
-    ensures added { OnOk result (soc_value draft.new.soc ≡ modules_with number (soc_value draft.old.soc)) }
+    ensures added { OnOk result
+        (soc_value draft.new.soc ≡ modules_with number (soc_value draft.old.soc)) }
     ensures indexed { OnOk result (IsIndexed draft.new) }
     ensures known { has_module_number (soc_value draft.old.soc) number ≡ true → IsOk result }
 {
@@ -195,7 +199,8 @@ fn add_module(draft: &mut Draft, number: u64) -> Result<(), NoMemory>
 /// What a keyword and a value say of the chip.
 pub fn give_chip(draft: &mut Draft, key: Key, value: &ReadValue<'_>) -> Result<(), NoMemory>
     requires { IsIndexed draft.old }
-    ensures given { OnOk result (soc_value draft.new.soc ≡ chip_says key (value_of value.now) (soc_value draft.old.soc)) }
+    ensures given { OnOk result
+        (soc_value draft.new.soc ≡ chip_says key (value_of value.now) (soc_value draft.old.soc)) }
     ensures indexed { OnOk result (IsIndexed draft.new) }
 {
     match (key, value) {
@@ -220,7 +225,8 @@ pub fn tell_module(
 ) -> Result<(), NoMemory>
     requires { IsIndexed draft.old }
     ensures said { OnOk result (soc_value draft.new.soc
-        ≡ modules_at number (tells (entry (Subject.OfModule number) key (value_of value.now))) (soc_value draft.old.soc)) }
+        ≡ modules_at number (tells (entry (Subject.OfModule number) key (value_of value.now)))
+        (soc_value draft.old.soc)) }
     ensures indexed { OnOk result (IsIndexed draft.new) }
 {
     let Some(place) = module_place(&draft.soc, number) else {
@@ -237,7 +243,8 @@ pub fn tell_module(
 fn put_chains(draft: &mut Draft, number: u64, key: Key, list: Vec<u64>)
     requires { IsIndexed draft.old }
     ensures said { soc_value draft.new.soc
-        ≡ modules_at number (tells (entry (Subject.OfModule number) key (lengths list.items))) (soc_value draft.old.soc) }
+        ≡ modules_at number (tells (entry (Subject.OfModule number) key (lengths list.items)))
+        (soc_value draft.old.soc) }
     ensures indexed { IsIndexed draft.new }
 {
     let Some(place) = module_place(&draft.soc, number) else {
@@ -252,7 +259,8 @@ fn put_chains(draft: &mut Draft, number: u64, key: Key, list: Vec<u64>)
 /// What a keyword and a list say.
 pub fn tell_chains(draft: &mut Draft, subject: Subject, key: Key, list: Vec<u64>)
     requires { IsIndexed draft.old }
-    ensures said { soc_value draft.new.soc ≡ item_says (entry subject key (lengths list.items)) (soc_value draft.old.soc) }
+    ensures said { soc_value draft.new.soc
+        ≡ item_says (entry subject key (lengths list.items)) (soc_value draft.old.soc) }
     ensures indexed { IsIndexed draft.new }
 {
     match subject {
@@ -267,7 +275,8 @@ pub fn tell_chains(draft: &mut Draft, subject: Subject, key: Key, list: Vec<u64>
 pub fn tell_test(draft: &mut Draft, number: u64, test: u64, key: Key, value: &ReadValue<'_>)
     requires { IsIndexed draft.old }
     ensures said { soc_value draft.new.soc
-        ≡ modules_at number (tells (entry (Subject.OfTest number test) key (value_of value.now))) (soc_value draft.old.soc) }
+        ≡ modules_at number (tells (entry (Subject.OfTest number test) key (value_of value.now)))
+        (soc_value draft.old.soc) }
     ensures indexed { IsIndexed draft.new }
 {
     let Some(place) = module_place(&draft.soc, number) else {

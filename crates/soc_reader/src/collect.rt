@@ -121,7 +121,8 @@ fn may_repeat(key: Key) -> bool
 
 /// Makes the rows of a test the last ones, where that is what a keyword goes on with.
 fn open_test(given: &mut Marks, key: Key, opened: Subject) -> Result<(), Stop>
-    ensures ok { OnOk result ((s : Subject) (k : Key) → is_marked s k given.new ≡ is_marked s k given.old) }
+    ensures ok { OnOk result
+        ((s : Subject) (k : Key) → is_marked s k given.new ≡ is_marked s k given.old) }
     ensures memory { OnErr result (result ≡ Err Stop.NoMemory) }
 {
     match key {
@@ -132,8 +133,10 @@ fn open_test(given: &mut Marks, key: Key, opened: Subject) -> Result<(), Stop>
 
 /// Marks a keyword of a subject as given, where it may be given once.
 fn mark_entry(given: &mut Marks, subject: Subject, key: Key, opened: Subject) -> Result<(), Stop>
-    ensures ok { OnOk result ((s : Subject) (k : Key) (v : Value) → (not (repeats k) && is_marked s k given.new)
-        ≡ ((not (repeats k) && gives_this s k (entry subject key v)) || (not (repeats k) && is_marked s k given.old))) }
+    ensures ok { OnOk result ((s : Subject) (k : Key) (v : Value) →
+        (not (repeats k) && is_marked s k given.new)
+        ≡ ((not (repeats k) && gives_this s k (entry subject key v))
+        || (not (repeats k) && is_marked s k given.old))) }
     ensures memory { OnErr result (result ≡ Err Stop.NoMemory) }
 {
     if may_repeat(key) {
@@ -183,7 +186,8 @@ fn go_on(
     key: Key,
     value: &ReadValue<'_>,
 ) -> Result<(), Stop>
-    ensures went_on { OnOk result (WentOn (entry subject key (value_of value.now)) kept.old kept.new) }
+    ensures went_on { OnOk result
+        (WentOn (entry subject key (value_of value.now)) kept.old kept.new) }
     ensures memory { OnErr result (result ≡ Err Stop.NoMemory) }
 {
     let opened = opened_by(subject, key, value, kept.opened);
@@ -205,7 +209,8 @@ pub fn add_value(
     value: ReadValue<'_>,
 ) -> Result<(), Stop>
     requires { IsIndexed kept.old.draft }
-    ensures added { OnOk result (known_of kept.new ≡ add (entry subject key (value_of value.entry)) (known_of kept.old)) }
+    ensures added { OnOk result
+        (known_of kept.new ≡ add (entry subject key (value_of value.entry)) (known_of kept.old)) }
     ensures indexed { OnOk result (IsIndexed kept.new.draft) }
     ensures memory { OnErr result (result ≡ Err Stop.NoMemory) }
 {
@@ -233,7 +238,8 @@ pub fn add_value(
 /// Adds a keyword behind which no word stands.
 pub fn add_bare(kept: &mut ItemsSoFar<'_>, subject: Subject, key: Key) -> Result<(), Stop>
     requires { IsIndexed kept.old.draft }
-    ensures added { OnOk result (known_of kept.new ≡ add (entry subject key nothing) (known_of kept.old)) }
+    ensures added { OnOk result
+        (known_of kept.new ≡ add (entry subject key nothing) (known_of kept.old)) }
     ensures indexed { OnOk result (IsIndexed kept.new.draft) }
     ensures memory { OnErr result (result ≡ Err Stop.NoMemory) }
 {
@@ -248,7 +254,8 @@ pub fn add_list(
     list: Vec<u64>,
 ) -> Result<(), Stop>
     requires { IsIndexed kept.old.draft }
-    ensures added { OnOk result (known_of kept.new ≡ add (entry subject key (lengths list.items)) (known_of kept.old)) }
+    ensures added { OnOk result
+        (known_of kept.new ≡ add (entry subject key (lengths list.items)) (known_of kept.old)) }
     ensures indexed { OnOk result (IsIndexed kept.new.draft) }
     ensures memory { OnErr result (result ≡ Err Stop.NoMemory) }
 {
@@ -275,7 +282,8 @@ fn note_name<'a>(
 pub fn add_name<'a>(kept: &mut ItemsSoFar<'a>, number: u64, name: &'a [u8]) -> Result<(), Stop>
     requires indexed { IsIndexed kept.old.draft }
     requires free { (known_of kept.old).renamed number name.now ≡ false }
-    ensures added { OnOk result (known_of kept.new ≡ add (named_item number name.now) (known_of kept.old)) }
+    ensures added { OnOk result
+        (known_of kept.new ≡ add (named_item number name.now) (known_of kept.old)) }
     ensures indexed { OnOk result (IsIndexed kept.new.draft) }
     ensures memory { OnErr result (result ≡ Err Stop.NoMemory) }
 {

@@ -68,11 +68,16 @@ pub fn read_soc(alloc: Global, bytes: &[u8]) -> Result<Soc, SocFault>
 /// only one of these.
 pub fn texts_have_one_answer()
     ensures chip { (bytes : List ℕ) (a b : SocValue) → SaysChip bytes a → SaysChip bytes b → a ≡ b }
-    ensures line { (bytes : List ℕ) (m n : ℕ) → IsRefusedLine bytes m → IsRefusedLine bytes n → m ≡ n }
-    ensures limit { (bytes : List ℕ) (a b : SocLimit) → IsTooLarge bytes a → IsTooLarge bytes b → a ≡ b }
-    ensures chip_or_line { (bytes : List ℕ) (soc : SocValue) (line : ℕ) → SaysChip bytes soc → IsRefusedLine bytes line → ⊥ }
-    ensures chip_or_limit { (bytes : List ℕ) (soc : SocValue) (limit : SocLimit) → SaysChip bytes soc → IsTooLarge bytes limit → ⊥ }
-    ensures limit_or_line { (bytes : List ℕ) (limit : SocLimit) (line : ℕ) → IsTooLarge bytes limit → IsRefusedLine bytes line → ⊥ }
+    ensures line { (bytes : List ℕ) (m n : ℕ) → IsRefusedLine bytes m → IsRefusedLine bytes n →
+        m ≡ n }
+    ensures limit { (bytes : List ℕ) (a b : SocLimit) → IsTooLarge bytes a → IsTooLarge bytes b →
+        a ≡ b }
+    ensures chip_or_line { (bytes : List ℕ) (soc : SocValue) (line : ℕ) → SaysChip bytes soc →
+        IsRefusedLine bytes line → ⊥ }
+    ensures chip_or_limit { (bytes : List ℕ) (soc : SocValue) (limit : SocLimit) →
+        SaysChip bytes soc → IsTooLarge bytes limit → ⊥ }
+    ensures limit_or_line { (bytes : List ℕ) (limit : SocLimit) (line : ℕ) →
+        IsTooLarge bytes limit → IsRefusedLine bytes line → ⊥ }
 {}
 
 /// Each text has an answer: it says a chip, or is refused at a line, or passes a limit.

@@ -75,7 +75,8 @@ fn add_row(marks: &mut Marks, subject: Subject, bit: u32)
 #[inline(always)]
 fn add_to_last(marks: &mut Marks, subject: Subject, bit: u32) -> bool
     ensures last { result ≡ true → is_some (bits_of marks.old subject) ≡ true }
-    ensures row { result ≡ true → (s : Subject) → bits_of marks.new s ≡ with_row subject bit s (bits_of marks.old s) }
+    ensures row { result ≡ true → (s : Subject) →
+        bits_of marks.new s ≡ with_row subject bit s (bits_of marks.old s) }
     ensures other { result ≡ false → marks.new ≡ marks.old }
 {
     let place = marks.len().saturating_sub(1);
@@ -95,9 +96,11 @@ fn add_to_last(marks: &mut Marks, subject: Subject, bit: u32) -> bool
 /// Notes a row of a subject, found by its hash. It stands apart, since most rows are of the last subject.
 #[inline(never)]
 fn add_by_hash(marks: &mut Marks, subject: Subject, bit: u32) -> Result<(), Stop>
-    ensures ok { OnOk result ((s : Subject) → bits_of marks.new s
-        ≡ (if is_same subject s then Some (option_map_or (λ rows. bit_or rows bit) (bits_of marks.old subject) bit)
-        else bits_of marks.old s)) }
+    ensures ok { OnOk result ((s : Subject) →
+        bits_of marks.new s
+        ≡ (if is_same subject s then Some
+        (option_map_or (λ rows. bit_or rows bit) (bits_of marks.old subject) bit) else
+        bits_of marks.old s)) }
     ensures memory { OnErr result (result ≡ Err Stop.NoMemory) }
 {
     match marks.insert(subject, bit)? {
@@ -112,8 +115,10 @@ fn add_by_hash(marks: &mut Marks, subject: Subject, bit: u32) -> Result<(), Stop
 /// Notes that this was given.
 #[inline(always)]
 pub fn mark_given(marks: &mut Marks, given: Given) -> Result<(), Stop>
-    ensures ok { OnOk result ((s : Subject) (k : Key) → is_marked s k marks.new
-        ≡ ((same_subject s given.subject && nat_eq (row k) (row given.key)) || is_marked s k marks.old)) }
+    ensures ok { OnOk result ((s : Subject) (k : Key) →
+        is_marked s k marks.new
+        ≡ ((same_subject s given.subject && nat_eq (row k) (row given.key))
+        || is_marked s k marks.old)) }
     ensures memory { OnErr result (result ≡ Err Stop.NoMemory) }
 {
     let bit = row_bit(given.key);
@@ -125,7 +130,8 @@ pub fn mark_given(marks: &mut Marks, given: Given) -> Result<(), Stop>
 
 /// Makes the rows of a subject the last ones, if there are none yet: what is said of it next is found there. None is noted.
 pub fn open_rows(marks: &mut Marks, subject: Subject) -> Result<(), Stop>
-    ensures ok { OnOk result ((s : Subject) (k : Key) → is_marked s k marks.new ≡ is_marked s k marks.old) }
+    ensures ok { OnOk result
+        ((s : Subject) (k : Key) → is_marked s k marks.new ≡ is_marked s k marks.old) }
     ensures memory { OnErr result (result ≡ Err Stop.NoMemory) }
 {
     add_by_hash(marks, subject, 0)

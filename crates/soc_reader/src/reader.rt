@@ -31,7 +31,9 @@ fn added<'a>(
     value: ReadValue<'a>,
 ) -> Result<(), Stop>
     requires { IsIndexed kept.old.draft }
-    ensures { Steps (at (add (entry subject key (value_of value.entry)) (known_of kept.old)) between) result part.new kept.new }
+    ensures { Steps
+        (at (add (entry subject key (value_of value.entry)) (known_of kept.old)) between) result
+        part.new kept.new }
 {
     add_value(kept, subject, key, value)?;
     *part = ReadPart::Between;
@@ -47,7 +49,8 @@ fn begin_value<'a>(
     shape: Shape,
 ) -> Result<(), Stop>
     requires { IsIndexed kept.old.draft }
-    ensures { Steps (begun of_known (known_of kept.old) subject key shape) result part.new kept.new }
+    ensures { Steps (begun of_known (known_of kept.old) subject key shape) result part.new
+        kept.new }
 {
     match shape {
         Shape::NoWord => {
@@ -123,7 +126,9 @@ fn shape_of(key: Key) -> Shape
 /// A keyword, where it may stand and may be given.
 fn begin_entry<'a>(kept: &mut ItemsSoFar<'a>, part: &mut ReadPart<'a>, key: Key) -> Result<(), Stop>
     requires { IsIndexed kept.old.draft }
-    ensures { Steps (begins_entry of_known (known_of kept.old) key (owner_of key (known_of kept.old).opened)) result part.new kept.new }
+    ensures { Steps
+        (begins_entry of_known (known_of kept.old) key (owner_of key (known_of kept.old).opened))
+        result part.new kept.new }
 {
     let Some(subject) = owner(key, opened(kept)) else {
         return Err(Stop::Refused);
@@ -142,8 +147,10 @@ fn name_module<'a>(
     name: &'a [u8],
 ) -> Result<(), Stop>
     requires { IsIndexed kept.old.draft }
-    ensures { Steps (begin_if (may_be_named number name.now (known_of kept.old))
-        (at (add (named_item number name.now) (known_of kept.old)) between)) result part.new kept.new }
+    ensures { Steps
+        (begin_if (may_be_named number name.now (known_of kept.old))
+        (at (add (named_item number name.now) (known_of kept.old)) between)) result part.new
+        kept.new }
 {
     if !may_name(kept, number, name) {
         return Err(Stop::Refused);
@@ -160,7 +167,8 @@ fn begin_data<'a>(
     is_data: bool,
 ) -> Result<(), Stop>
     requires { IsIndexed kept.old.draft }
-    ensures { Steps (begins_data (known_of kept.old) is_data (known_of kept.old).opened) result part.new kept.new }
+    ensures { Steps (begins_data (known_of kept.old) is_data (known_of kept.old).opened) result
+        part.new kept.new }
 {
     if opened(kept) == Subject::Chip || !is_data {
         return Err(Stop::Refused);
@@ -176,8 +184,9 @@ fn begin_free<'a>(
     word: &'a [u8],
 ) -> Result<(), Stop>
     requires { IsIndexed kept.old.draft }
-    ensures { Steps (begins_free of_known (known_of kept.old) word.now (known_of kept.old).place (known_of kept.old).opened) result
-        part.new kept.new }
+    ensures { Steps
+        (begins_free of_known (known_of kept.old) word.now (known_of kept.old).place
+        (known_of kept.old).opened) result part.new kept.new }
 {
     let is_data = has_xy(kept) && is_letter_word(word);
     match (place_after(kept), opened(kept)) {
@@ -227,7 +236,9 @@ fn give_value<'a>(
     value: Option<ReadValue<'a>>,
 ) -> Result<(), Stop>
     requires { IsIndexed kept.old.draft }
-    ensures { Steps (after_value of_known (known_of kept.old) subject key (option_map value_of value.entry)) result part.new kept.new }
+    ensures { Steps
+        (after_value of_known (known_of kept.old) subject key (option_map value_of value.entry))
+        result part.new kept.new }
 {
     match value {
         Some(value) => added(kept, part, subject, key, value),
@@ -245,7 +256,8 @@ fn go_on_listing<'a>(
     left: u64,
 ) -> Result<(), Stop>
     requires { IsIndexed kept.old.draft }
-    ensures { Steps (lists_from of_known (known_of kept.old) subject key read.items left) result part.new kept.new }
+    ensures { Steps (lists_from of_known (known_of kept.old) subject key read.items left) result
+        part.new kept.new }
 {
     if left == 0 {
         add_list(kept, subject, key, read)?;
@@ -263,7 +275,8 @@ fn go_on_listing<'a>(
 
 /// The value that one word is.
 fn word_value<'a>(shape: Shape, word: Word<'a>) -> Option<ReadValue<'a>>
-    ensures { option_map value_of result ≡ value_that_is shape (word.entry.bytes.now, word.entry.line) }
+    ensures { option_map value_of result
+        ≡ value_that_is shape (word.entry.bytes.now, word.entry.line) }
 {
     match shape {
         Shape::NoWord | Shape::ManyNumbers => None,
@@ -292,8 +305,9 @@ fn step_value<'a>(
     word: Word<'a>,
 ) -> Result<(), Stop>
     requires { IsIndexed kept.old.draft }
-    ensures { Steps (steps_value of_known (known_of kept.old) subject key shape (word.entry.bytes.now, word.entry.line)) result
-        part.new kept.new }
+    ensures { Steps
+        (steps_value of_known (known_of kept.old) subject key shape
+        (word.entry.bytes.now, word.entry.line)) result part.new kept.new }
 {
     if shape == Shape::ManyNumbers {
         return match number_of(word.bytes) {
@@ -322,7 +336,9 @@ fn step_length<'a>(
     word: &'a [u8],
 ) -> Result<(), Stop>
     requires { IsIndexed kept.old.draft }
-    ensures { Steps (lists_after of_known (known_of kept.old) subject key read.items left (number_in word.now)) result part.new kept.new }
+    ensures { Steps
+        (lists_after of_known (known_of kept.old) subject key read.items left (number_in word.now))
+        result part.new kept.new }
 {
     let Some(length) = number_of(word) else {
         return Err(Stop::Refused);
@@ -353,8 +369,9 @@ fn step_counted<'a>(
     word: &'a [u8],
 ) -> Result<(), Stop>
     requires { IsIndexed kept.old.draft }
-    ensures { Steps (steps_counted of_known (known_of kept.old) subject key count word.now (says_lengths word.now)) result
-        part.new kept.new }
+    ensures { Steps
+        (steps_counted of_known (known_of kept.old) subject key count word.now
+        (says_lengths word.now)) result part.new kept.new }
 {
     if is_lengths_word(word) {
         let read = no_lengths(alloc, count)?;
@@ -377,7 +394,9 @@ fn step_name<'a>(
     word: &'a [u8],
 ) -> Result<(), Stop>
     requires { IsIndexed kept.old.draft }
-    ensures { Steps (steps_name of_known (known_of kept.old) number name.now word.now (is_number_like word.now)) result part.new kept.new }
+    ensures { Steps
+        (steps_name of_known (known_of kept.old) number name.now word.now (is_number_like word.now))
+        result part.new kept.new }
 {
     if is_coordinate(word) {
         add_place(kept);
@@ -422,8 +441,9 @@ fn step_listing<'a>(
 ) -> Result<(), Stop>
     requires indexed { IsIndexed kept.old.draft }
     requires list { is_list part.old ≡ true }
-    ensures { Steps (step_at of_known (known_of kept.old) (part_of part.old) (word.entry.bytes.now, word.entry.line)) result
-        part.new kept.new }
+    ensures { Steps
+        (step_at of_known (known_of kept.old) (part_of part.old)
+        (word.entry.bytes.now, word.entry.line)) result part.new kept.new }
 {
     if add_length(part, word.bytes)? {
         return Ok(());
@@ -452,8 +472,9 @@ pub fn step_word<'a>(
     word: Word<'a>,
 ) -> Result<(), Stop>
     requires { IsIndexed kept.old.draft }
-    ensures { Steps (step_at of_known (known_of kept.old) (part_of part.old) (word.entry.bytes.now, word.entry.line)) result
-        part.new kept.new }
+    ensures { Steps
+        (step_at of_known (known_of kept.old) (part_of part.old)
+        (word.entry.bytes.now, word.entry.line)) result part.new kept.new }
 {
     match part {
         ReadPart::Between => begin_item(kept, part, word.bytes),

@@ -48,7 +48,8 @@ use std::alloc::Global;
 fn decide_print<H: Shelf>(alloc: Global, soc: &str, shelf: &mut H) -> Verdict
     ensures held_stays { H.held shelf.new ≡ H.held shelf.old }
     ensures faults_never_fall { H.faults shelf.old ≤ H.faults shelf.new }
-    ensures follows { Follows (procedure_of (Print soc.now)) (H.held shelf.old) (H.faults shelf.old) (H.faults shelf.new) result }
+    ensures follows { Follows (procedure_of (Print soc.now)) (H.held shelf.old) (H.faults shelf.old)
+        (H.faults shelf.new) result }
     ensures by_loads { LoadsGive H.is_load (procedure_of (Print soc.now))
         shelf.old result shelf.new }
 {
@@ -64,7 +65,8 @@ fn decide_widths<H: Shelf>(alloc: Global, soc: &str, wires: u64, shelf: &mut H) 
     requires few { wires ≤ WIRES_MOST }
     ensures held_stays { H.held shelf.new ≡ H.held shelf.old }
     ensures faults_never_fall { H.faults shelf.old ≤ H.faults shelf.new }
-    ensures follows { Follows (procedure_of (Widths soc.now wires)) (H.held shelf.old) (H.faults shelf.old) (H.faults shelf.new) result }
+    ensures follows { Follows (procedure_of (Widths soc.now wires)) (H.held shelf.old)
+        (H.faults shelf.old) (H.faults shelf.new) result }
     ensures by_loads { LoadsGive H.is_load (procedure_of (Widths soc.now wires))
         shelf.old result shelf.new }
 {
@@ -93,7 +95,8 @@ pub(crate) fn planned(alloc: Global, problem: &Problem<'_>) -> Result<Plan, NoMe
 pub(crate) fn planned_for(alloc: Global, soc: &Soc, limits: &Limits) -> Result<Plan, NoMemory>
     requires chip { IsSoundChip (soc_value soc.now) }
     requires limits { IsSoundLimits (soc_value soc.now) (limits_value limits.now) }
-    ensures { IfOk result (λ plan. IsPlanned (soc_value soc.now) (limits_value limits.now) (plan_value plan)) }
+    ensures { IfOk result
+        (λ plan. IsPlanned (soc_value soc.now) (limits_value limits.now) (plan_value plan)) }
 {
     let resolved = Resolved::new(alloc, soc, limits)?;
     let problem = Problem::new(soc, limits, &resolved);
@@ -103,8 +106,8 @@ pub(crate) fn planned_for(alloc: Global, soc: &Soc, limits: &Limits) -> Result<P
 
 /// The text of the planner's plan.
 fn text_of_plan(alloc: Global, both: &Both) -> Result<Vec<u8>, NoMemory>
-    ensures { IfOk result (λ text. (value : PlanValue) × IsPlanned both.now.soc both.now.limits value
-        × (text.items ≡ plan_text value)) }
+    ensures { IfOk result (λ text. (value : PlanValue)
+        × IsPlanned both.now.soc both.now.limits value × (text.items ≡ plan_text value)) }
 {
     let plan = planned(alloc, &both.problem())?;
     print_plan(alloc, &plan)
@@ -114,8 +117,8 @@ fn text_of_plan(alloc: Global, both: &Both) -> Result<Vec<u8>, NoMemory>
 fn decide_plan<H: Shelf>(alloc: Global, soc: &str, limits: &str, shelf: &mut H) -> Verdict
     ensures held_stays { H.held shelf.new ≡ H.held shelf.old }
     ensures faults_never_fall { H.faults shelf.old ≤ H.faults shelf.new }
-    ensures follows { Follows (procedure_of (MakePlan soc.now limits.now)) (H.held shelf.old) (H.faults shelf.old)
-        (H.faults shelf.new) result }
+    ensures follows { Follows (procedure_of (MakePlan soc.now limits.now)) (H.held shelf.old)
+        (H.faults shelf.old) (H.faults shelf.new) result }
     ensures by_loads { LoadsGive H.is_load (procedure_of (MakePlan soc.now limits.now))
         shelf.old result shelf.new }
 {
@@ -146,8 +149,8 @@ fn decide_check<H: Shelf>(
 ) -> Verdict
     ensures held_stays { H.held shelf.new ≡ H.held shelf.old }
     ensures faults_never_fall { H.faults shelf.old ≤ H.faults shelf.new }
-    ensures follows { Follows (procedure_of (Check soc.now limits.now plan.now)) (H.held shelf.old) (H.faults shelf.old)
-        (H.faults shelf.new) result }
+    ensures follows { Follows (procedure_of (Check soc.now limits.now plan.now)) (H.held shelf.old)
+        (H.faults shelf.old) (H.faults shelf.new) result }
     ensures by_loads { LoadsGive H.is_load (procedure_of (Check soc.now limits.now plan.now))
         shelf.old result shelf.new }
 {
@@ -179,8 +182,8 @@ fn decide_chart<H: Shelf>(
 ) -> Verdict
     ensures held_stays { H.held shelf.new ≡ H.held shelf.old }
     ensures faults_never_fall { H.faults shelf.old ≤ H.faults shelf.new }
-    ensures follows { Follows (procedure_of (Chart soc.now limits.now plan.now)) (H.held shelf.old) (H.faults shelf.old)
-        (H.faults shelf.new) result }
+    ensures follows { Follows (procedure_of (Chart soc.now limits.now plan.now)) (H.held shelf.old)
+        (H.faults shelf.old) (H.faults shelf.new) result }
     ensures by_loads { LoadsGive H.is_load (procedure_of (Chart soc.now limits.now plan.now))
         shelf.old result shelf.new }
 {
@@ -205,10 +208,11 @@ fn decide_vectors<H: Shelf>(
 ) -> Ending
     ensures held_stays { H.held shelf.new ≡ H.held shelf.old }
     ensures faults_never_fall { H.faults shelf.old ≤ H.faults shelf.new }
-    ensures closes { Closes (procedure_of (Vectors soc.now limits.now plan.now seed)) (H.held shelf.old) (H.faults shelf.old)
-        (H.faults shelf.new) (ending_value result) }
+    ensures closes { Closes (procedure_of (Vectors soc.now limits.now plan.now seed))
+        (H.held shelf.old) (H.faults shelf.old) (H.faults shelf.new) (ending_value result) }
     ensures by_loads { LoadsEnding H.is_load
-        (procedure_of (Vectors soc.now limits.now plan.now seed)) shelf.old (ending_value result) shelf.new }
+        (procedure_of (Vectors soc.now limits.now plan.now seed)) shelf.old (ending_value result)
+        shelf.new }
 {
     match load_all(alloc, soc, limits, plan, shelf) {
         Ok(all) => Ending::Run { all, seed },
@@ -226,8 +230,8 @@ fn decide_tree<H: Shelf>(
 ) -> Verdict
     ensures held_stays { H.held shelf.new ≡ H.held shelf.old }
     ensures faults_never_fall { H.faults shelf.old ≤ H.faults shelf.new }
-    ensures follows { Follows (procedure_of (Tree soc.now limits.now tree.now)) (H.held shelf.old) (H.faults shelf.old)
-        (H.faults shelf.new) result }
+    ensures follows { Follows (procedure_of (Tree soc.now limits.now tree.now)) (H.held shelf.old)
+        (H.faults shelf.old) (H.faults shelf.new) result }
     ensures by_loads { LoadsGive H.is_load (procedure_of (Tree soc.now limits.now tree.now))
         shelf.old result shelf.new }
 {
@@ -252,8 +256,8 @@ fn decide_locate<H: Shelf>(
 ) -> Verdict
     ensures held_stays { H.held shelf.new ≡ H.held shelf.old }
     ensures faults_never_fall { H.faults shelf.old ≤ H.faults shelf.new }
-    ensures follows { Follows (procedure_of (Locate soc.now limits.now plan.now log.now)) (H.held shelf.old) (H.faults shelf.old)
-        (H.faults shelf.new) result }
+    ensures follows { Follows (procedure_of (Locate soc.now limits.now plan.now log.now))
+        (H.held shelf.old) (H.faults shelf.old) (H.faults shelf.new) result }
     ensures by_loads { LoadsGive H.is_load
         (procedure_of (Locate soc.now limits.now plan.now log.now)) shelf.old result shelf.new }
 {
@@ -278,8 +282,8 @@ fn decide_shift<H: Shelf>(
 ) -> Verdict
     ensures held_stays { H.held shelf.new ≡ H.held shelf.old }
     ensures faults_never_fall { H.faults shelf.old ≤ H.faults shelf.new }
-    ensures follows { Follows (procedure_of (Shift soc.now limits.now plan.now program.now)) (H.held shelf.old) (H.faults shelf.old)
-        (H.faults shelf.new) result }
+    ensures follows { Follows (procedure_of (Shift soc.now limits.now plan.now program.now))
+        (H.held shelf.old) (H.faults shelf.old) (H.faults shelf.new) result }
     ensures by_loads { LoadsGive H.is_load
         (procedure_of (Shift soc.now limits.now plan.now program.now)) shelf.old result shelf.new }
 {
@@ -297,15 +301,19 @@ fn decide_shift<H: Shelf>(
 pub fn decide<H: Shelf>(alloc: Global, words: &[String], shelf: &mut H) -> Ending
     ensures held_stays { H.held shelf.new ≡ H.held shelf.old }
     ensures faults_never_fall { H.faults shelf.old ≤ H.faults shelf.new }
-    ensures closes { Closes (asked procedure_of (asked_command (map string_bytes words.now))) (H.held shelf.old) (H.faults shelf.old)
-        (H.faults shelf.new) (ending_value result) }
+    ensures closes { Closes (asked procedure_of (asked_command (map string_bytes words.now)))
+        (H.held shelf.old) (H.faults shelf.old) (H.faults shelf.new) (ending_value result) }
     ensures by_loads { LoadsEnding H.is_load
         (asked procedure_of (asked_command (map string_bytes words.now)))
         shelf.old (ending_value result) shelf.new }
-    ensures untouched { (IsCommand (asked procedure_of (asked_command (map string_bytes words.now))) → ⊥) → shelf.new ≡ shelf.old }
+    ensures untouched { (IsCommand
+        (asked procedure_of (asked_command (map string_bytes words.now))) → ⊥) →
+        shelf.new ≡ shelf.old }
     ensures range { IfSome (asked_command (map string_bytes words.now)) IsInRange }
-    ensures sampled { (n seed : ℕ) → asked_command (map string_bytes words.now) ≡ Some (Sample n seed) → (held : Option Files) →
-        Closes (procedure_of (Sample n seed)) held (H.faults shelf.old) (H.faults shelf.new) (ending_value result) }
+    ensures sampled { (n seed : ℕ) →
+        asked_command (map string_bytes words.now) ≡ Some (Sample n seed) → (held : Option Files) →
+        Closes (procedure_of (Sample n seed)) held (H.faults shelf.old) (H.faults shelf.new)
+        (ending_value result) }
 {
     match command_of(words) {
         Some(Command::Print { soc }) => Ending::Decided(decide_print(alloc, soc, shelf)),

@@ -27,8 +27,9 @@ pub enum Ending {
 fn write_run<K: Sink>(alloc: Global, placed: &PlacedPlan<'_>, seed: u64, out: &mut K) -> Status
     requires { wires_of placed.now.plan ≤ 256 }
     ensures faults_never_fall { K.faults out.old ≤ K.faults out.new }
-    ensures written { WritesUnless (run_refusal (too_many placed.now.plan)) (vector_text placed.now.soc placed.now.plan
-        (made_content placed.now.soc seed)) (K.faults out.old) (K.faults out.new) (K.written out.old) result (K.written out.new) }
+    ensures written { WritesUnless (run_refusal (too_many placed.now.plan))
+        (vector_text placed.now.soc placed.now.plan (made_content placed.now.soc seed))
+        (K.faults out.old) (K.faults out.new) (K.written out.old) result (K.written out.new) }
     ensures puts { MakesPuts K.is_put out.old result out.new }
 {
     match write_made(alloc, placed, seed, out) {
@@ -45,8 +46,9 @@ fn write_run<K: Sink>(alloc: Global, placed: &PlacedPlan<'_>, seed: u64, out: &m
 /// Writes the vectors of a plan that is accepted.
 fn write_accepted<K: Sink>(alloc: Global, all: &Accepted, seed: u64, out: &mut K) -> Status
     ensures faults_never_fall { K.faults out.old ≤ K.faults out.new }
-    ensures written { WritesUnless (run_refusal (too_many all.now.plan)) (vector_text all.now.soc all.now.plan
-        (made_content all.now.soc seed)) (K.faults out.old) (K.faults out.new) (K.written out.old) result (K.written out.new) }
+    ensures written { WritesUnless (run_refusal (too_many all.now.plan))
+        (vector_text all.now.soc all.now.plan (made_content all.now.soc seed)) (K.faults out.old)
+        (K.faults out.new) (K.written out.old) result (K.written out.new) }
     ensures puts { MakesPuts K.is_put out.old result out.new }
 {
     write_run(alloc, &all.placed_plan(), seed, out)
@@ -55,8 +57,8 @@ fn write_accepted<K: Sink>(alloc: Global, all: &Accepted, seed: u64, out: &mut K
 /// Writes what a call ends with, and answers its status.
 pub fn write_ending<K: Sink>(alloc: Global, ending: Ending, out: &mut K) -> Status
     ensures faults_never_fall { K.faults out.old ≤ K.faults out.new }
-    ensures written { WritesEnding (ending_value ending) (K.faults out.old) (K.faults out.new) (K.written out.old) result
-        (K.written out.new) }
+    ensures written { WritesEnding (ending_value ending) (K.faults out.old) (K.faults out.new)
+        (K.written out.old) result (K.written out.new) }
     ensures puts { PutsEnding K.is_put (ending_value ending) out.old result out.new }
 {
     match ending {

@@ -47,7 +47,8 @@ fn push_fail(
     cycle: u64,
     wire: u64,
 ) -> Result<(), NoMemory>
-    ensures { OnOk result (text.new.items ≡ text.old.items ++ fail_line locator.now.soc locator.now.plan (cycle, wire)) }
+    ensures { OnOk result (text.new.items
+        ≡ text.old.items ++ fail_line locator.now.soc locator.now.plan (cycle, wire)) }
 {
     push_decimal(text, u128::from(cycle))?;
     push_text(text, b" ")?;
@@ -64,7 +65,8 @@ pub fn locate_text(
     placed: &PlacedPlan<'_>,
     fails: &[(u64, u64)],
 ) -> Result<Vec<u8>, NoMemory>
-    ensures { IfOk result (λ text. text.items ≡ whole_text placed.now.soc placed.now.plan fails.now) }
+    ensures { IfOk result
+        (λ text. text.items ≡ whole_text placed.now.soc placed.now.plan fails.now) }
 {
     let locator = Locator::of(alloc, placed)?;
     let mut text = Vec::new(alloc);

@@ -21,7 +21,8 @@ fn located(alloc: Global, all: &Accepted, fails: &[(u64, u64)]) -> Result<Vec<u8
 
 /// What is answered of a log's bytes, for a plan that is accepted.
 pub(crate) fn answer_log(alloc: Global, all: &Accepted, bytes: &[u8]) -> Verdict
-    ensures { AnswersBytes SaysLog RefusesFails (text_of_fails all.now.soc all.now.plan) bytes.now result }
+    ensures { AnswersBytes SaysLog RefusesFails (text_of_fails all.now.soc all.now.plan) bytes.now
+        result }
 {
     match read_log(alloc, bytes) {
         Ok(fails) => answered_with(Status::Done, located(alloc, all, fails.as_slice())),

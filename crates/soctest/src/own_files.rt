@@ -53,7 +53,8 @@ pub(crate) fn answer_own_file<H: Shelf>(
 ) -> Verdict
     ensures held_stays { H.held shelf.new ≡ H.held shelf.old }
     ensures faults_never_fall { H.faults shelf.old ≤ H.faults shelf.new }
-    ensures follows { Follows (with_own own.entry name.now) (H.held shelf.old) (H.faults shelf.old) (H.faults shelf.new) result }
+    ensures follows { Follows (with_own own.entry name.now) (H.held shelf.old) (H.faults shelf.old)
+        (H.faults shelf.new) result }
     ensures by_loads { LoadsGive H.is_load (with_own own.entry name.now)
         shelf.old result shelf.new }
 {

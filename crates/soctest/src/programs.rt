@@ -102,8 +102,9 @@ fn accepted_program(alloc: Global, done: u128, cycles: u64) -> Result<Vec<u8>, N
 /// The places of the module and of the live test over the wires of this name, where the chip has one.
 fn tam_test(soc: &Soc, id: TestId) -> Option<(usize, usize)>
     requires { IsSoundChip (soc_value soc.now) }
-    ensures found { IfSome result (λ at. (m : ModuleValue) × (t : Test) × (slice_get (soc_value soc.now).modules at.0 ≡ Some m)
-        × (slice_get m.tests at.1 ≡ Some t) × (is_tam t ≡ true) × (named_test (soc_value soc.now) id ≡ Some (m, t))) }
+    ensures found { IfSome result (λ at. (m : ModuleValue) × (t : Test)
+        × (slice_get (soc_value soc.now).modules at.0 ≡ Some m) × (slice_get m.tests at.1 ≡ Some t)
+        × (is_tam t ≡ true) × (named_test (soc_value soc.now) id ≡ Some (m, t))) }
     ensures none { IfNone result (named_test (soc_value soc.now) id ≡ None) }
 {
     let (place, at) = find_test(soc, id)?;
@@ -116,8 +117,10 @@ fn tam_test(soc: &Soc, id: TestId) -> Option<(usize, usize)>
 
 /// The wrapper that a plan has for a test.
 fn wrapper_for<'a>(plan: &'a Plan, module: &Module, test: &Test) -> &'a Wrapper
-    requires { IsWrapped (module_value «module».now) test.now (map wrapper_value plan.now.wrappers.items) }
-    ensures proper { IsProper (module_value «module».now) result.now.scan (map chain_value result.now.chains.items) }
+    requires { IsWrapped (module_value «module».now) test.now
+        (map wrapper_value plan.now.wrappers.items) }
+    ensures proper { IsProper (module_value «module».now) result.now.scan
+        (map chain_value result.now.chains.items) }
     ensures same { wrapped_test (module_value «module».now) test.now (wrapper_value result.now)
         ≡ planned_for (plan_value plan.now) (module_value «module».now) test.now }
 {
@@ -135,12 +138,14 @@ fn judge_program(
     test: &Test,
     program: &Program,
 ) -> Verdict
-    requires wrapped { IsWrapped (module_value «module».now) test.now (map wrapper_value plan.now.wrappers.items) }
+    requires wrapped { IsWrapped (module_value «module».now) test.now
+        (map wrapper_value plan.now.wrappers.items) }
     requires small { module_size (module_value «module».now) ≤ 10 ^ 18 }
     requires work { test_work (module_value «module».now) test.now ≤ 10 ^ 18 }
     requires tam { is_tam test.now ≡ true }
     requires lasting { All IsLasting program.now.entries.items }
-    ensures { Judges (plan_value plan.now) (program_value program.now) (Some (module_value «module».now, test.now)) result }
+    ensures { Judges (plan_value plan.now) (program_value program.now)
+        (Some (module_value «module».now, test.now)) result }
 {
     let Ok(mut room) = ProgramRoom::new(alloc, program) else {
         return Verdict::NoMemory;
@@ -161,7 +166,8 @@ fn judge_named(alloc: Global, soc: &Soc, limits: &Limits, plan: &Plan, program: 
     requires chip { IsSoundChip (soc_value soc.now) }
     requires good { IsGood (soc_value soc.now) (limits_value limits.now) (plan_value plan.now) }
     requires lasting { All IsLasting program.now.entries.items }
-    ensures { Judges (plan_value plan.now) (program_value program.now) (named_test (soc_value soc.now) program.now.test) result }
+    ensures { Judges (plan_value plan.now) (program_value program.now)
+        (named_test (soc_value soc.now) program.now.test) result }
 {
     match tam_test(soc, program.test) {
         Some((place, at)) => {
@@ -182,7 +188,8 @@ pub(crate) fn answer_program(
 ) -> Verdict
     requires chip { IsSoundChip (soc_value soc.now) }
     requires good { IsGood (soc_value soc.now) (limits_value limits.now) (plan_value plan.now) }
-    ensures { AnswersBytes (SaysRight (soc_value soc.now) (plan_value plan.now)) (RefusesProgram (soc_value soc.now) (plan_value plan.now))
+    ensures { AnswersBytes (SaysRight (soc_value soc.now) (plan_value plan.now))
+        (RefusesProgram (soc_value soc.now) (plan_value plan.now))
         (text_of_program (soc_value soc.now) (plan_value plan.now)) bytes.now result }
 {
     match read_program(alloc, bytes) {

@@ -82,8 +82,10 @@ fn kind(why: &Why) -> &'static [u8]
 /// Appends the lines of a made chip: its numbers, its modules and its live tests.
 fn push_made(text: &mut Vec<u8>, n: u64, seed: u64, soc: &Soc) -> Result<(), NoMemory>
     requires { IsSoundChip (soc_value soc.now) }
-    ensures { OnOk result (text.new.items ≡ text.old.items ++ codes "sample " ++ two_numbers n seed ++ codes "\nmodules "
-        ++ decimal (length (soc_value soc.now).modules) ++ codes "\ntests " ++ decimal (length (live_tests (soc_value soc.now)))) }
+    ensures { OnOk result (text.new.items
+        ≡ text.old.items ++ codes "sample " ++ two_numbers n seed ++ codes "\nmodules "
+        ++ decimal (length (soc_value soc.now).modules) ++ codes "\ntests "
+        ++ decimal (length (live_tests (soc_value soc.now)))) }
 {
     push_text(text, b"sample ")?;
     push_two(text, u128::from(n), u128::from(seed))?;
@@ -95,8 +97,10 @@ fn push_made(text: &mut Vec<u8>, n: u64, seed: u64, soc: &Soc) -> Result<(), NoM
 
 /// Appends the lines of a plan: its cycles, and its bound with the kind of its certificate.
 fn push_planned(text: &mut Vec<u8>, plan: &Plan) -> Result<(), NoMemory>
-    ensures { OnOk result (text.new.items ≡ text.old.items ++ codes "\ncycles " ++ decimal plan.now.cycles ++ codes "\nbound "
-        ++ decimal plan.now.bound.cycles ++ codes " " ++ kind_text (why_value plan.now.bound.why)) }
+    ensures { OnOk result (text.new.items
+        ≡ text.old.items ++ codes "\ncycles " ++ decimal plan.now.cycles ++ codes "\nbound "
+        ++ decimal plan.now.bound.cycles ++ codes " "
+        ++ kind_text (why_value plan.now.bound.why)) }
 {
     push_text(text, b"\ncycles ")?;
     push_decimal(text, u128::from(plan.cycles))?;
@@ -109,7 +113,8 @@ fn push_planned(text: &mut Vec<u8>, plan: &Plan) -> Result<(), NoMemory>
 /// The summary of a made chip and its plan.
 fn summary(alloc: Global, n: u64, seed: u64, soc: &Soc, plan: &Plan) -> Result<Vec<u8>, NoMemory>
     requires { IsSoundChip (soc_value soc.now) }
-    ensures { IfOk result (λ text. text.items ≡ sample_text n seed (soc_value soc.now) (plan_value plan.now)) }
+    ensures { IfOk result
+        (λ text. text.items ≡ sample_text n seed (soc_value soc.now) (plan_value plan.now)) }
 {
     let mut text = Vec::new(alloc);
     push_made(&mut text, n, seed, soc)?;
@@ -133,7 +138,8 @@ fn checked_plan(alloc: Global, problem: &Problem<'_>) -> Result<Plan, NoMemory>
 fn checked_for(alloc: Global, soc: &Soc, limits: &Limits) -> Result<Plan, NoMemory>
     requires chip { IsSoundChip (soc_value soc.now) }
     requires limits { IsSoundLimits (soc_value soc.now) (limits_value limits.now) }
-    ensures { IfOk result (λ plan. IsPlanned (soc_value soc.now) (limits_value limits.now) (plan_value plan)) }
+    ensures { IfOk result
+        (λ plan. IsPlanned (soc_value soc.now) (limits_value limits.now) (plan_value plan)) }
 {
     let resolved = Resolved::new(alloc, soc, limits)?;
     let problem = Problem::new(soc, limits, &resolved);
@@ -145,7 +151,8 @@ fn checked_for(alloc: Global, soc: &Soc, limits: &Limits) -> Result<Plan, NoMemo
 fn plan_sample(alloc: Global, n: u64, seed: u64, soc: &Soc) -> Result<Vec<u8>, NoMemory>
     requires chip { IsSoundChip (soc_value soc.now) }
     requires limits { IsSoundLimits (soc_value soc.now) sample_limits }
-    ensures { IfOk result (λ text. (value : PlanValue) × IsPlanned (soc_value soc.now) sample_limits value
+    ensures { IfOk result
+        (λ text. (value : PlanValue) × IsPlanned (soc_value soc.now) sample_limits value
         × (text.items ≡ sample_text n seed (soc_value soc.now) value)) }
 {
     let limits = make_limits(alloc);
@@ -164,7 +171,8 @@ fn sample_line(alloc: Global, n: u64) -> Result<Vec<u8>, NoMemory>
 /// `sample N SEED`: the summary of the made chip of N modules.
 pub(crate) fn decide_sample(alloc: Global, n: u64, seed: u64) -> Verdict
     requires { seed ≤ NUMBER_WORD_MOST }
-    ensures { (held : Option Files) (before after : ℕ) → Follows (procedure_of (Sample n seed)) held before after result }
+    ensures { (held : Option Files) (before after : ℕ) →
+        Follows (procedure_of (Sample n seed)) held before after result }
 {
     match sample(alloc, n, seed) {
         Ok(soc) => answered_with(Status::Done, plan_sample(alloc, n, seed, &soc)),

@@ -52,7 +52,8 @@ fn push_parts(text: &mut Vec<u8>, parts: &[Part]) -> Result<(), NoMemory>
 
 /// Appends the texts of a chip and of limits for it, each under its name.
 fn push_both(alloc: Global, text: &mut Vec<u8>, soc: &Soc, limits: &Limits) -> Result<(), NoMemory>
-    ensures { OnOk result (text.new.items ≡ text.old.items ++ soc_and_limits (soc_value soc.now) (limits_value limits.now)) }
+    ensures { OnOk result (text.new.items
+        ≡ text.old.items ++ soc_and_limits (soc_value soc.now) (limits_value limits.now)) }
 {
     extend(text, b"soc\n")?;
     let chip = print_soc(alloc, soc)?;
@@ -64,7 +65,8 @@ fn push_both(alloc: Global, text: &mut Vec<u8>, soc: &Soc, limits: &Limits) -> R
 
 /// The text of the parts of a chip and of a plan for them.
 fn split_text(alloc: Global, split: &Split, plan: &Plan) -> Result<Vec<u8>, NoMemory>
-    ensures { IfOk result (λ text. text.items ≡ text_of_parts (split_value split.now) (plan_value plan.now)) }
+    ensures { IfOk result
+        (λ text. text.items ≡ text_of_parts (split_value split.now) (plan_value plan.now)) }
 {
     let mut text = Vec::new(alloc);
     extend(&mut text, b"parts\n")?;
@@ -80,7 +82,8 @@ fn split_text(alloc: Global, split: &Split, plan: &Plan) -> Result<Vec<u8>, NoMe
 fn planned_split(alloc: Global, split: &Split) -> Result<Vec<u8>, NoMemory>
     requires chip { IsSoundChip (soc_value split.now.soc) }
     requires limits { IsSoundLimits (soc_value split.now.soc) (limits_value split.now.limits) }
-    ensures { IfOk result (λ text. (value : PlanValue) × IsPlanned (soc_value split.now.soc) (limits_value split.now.limits) value
+    ensures { IfOk result (λ text. (value : PlanValue)
+        × IsPlanned (soc_value split.now.soc) (limits_value split.now.limits) value
         × (text.items ≡ text_of_parts (split_value split.now) value)) }
 {
     let plan = planned_for(alloc, &split.soc, &split.limits)?;
@@ -106,9 +109,12 @@ fn answer_split(alloc: Global, soc: &Soc, limits: &Limits, most: u64) -> Verdict
     requires limits { IsSoundLimits (soc_value soc.now) (limits_value limits.now) }
     requires most { 1 ≤ most }
     ensures { GivesAny (split_refusal (soc_value soc.now) (limits_value limits.now) most)
-        (λ (text : List ℕ). (value : PlanValue) × IsPlanned (split_chip (limits_value limits.now) most (soc_value soc.now))
+        (λ (text : List ℕ). (value : PlanValue)
+        × IsPlanned (split_chip (limits_value limits.now) most (soc_value soc.now))
         (split_limits (limits_value limits.now) most (soc_value soc.now)) value
-        × (text ≡ text_of_parts (parts_of (soc_value soc.now) (limits_value limits.now) most) value)) result }
+        × (text
+        ≡ text_of_parts (parts_of (soc_value soc.now) (limits_value limits.now) most)
+        value)) result }
 {
     match split_soc(alloc, soc, limits, most) {
         Ok(split) => answered_with(Status::Done, planned_split(alloc, &split)),
@@ -124,7 +130,8 @@ fn answer_split(alloc: Global, soc: &Soc, limits: &Limits, most: u64) -> Verdict
 fn answer_both(alloc: Global, both: &Both, most: u64) -> Verdict
     requires { 1 ≤ most }
     ensures { GivesAny (split_refusal both.now.soc both.now.limits most)
-        (λ (text : List ℕ). (value : PlanValue) × IsPlanned (split_chip both.now.limits most both.now.soc)
+        (λ (text : List ℕ). (value : PlanValue)
+        × IsPlanned (split_chip both.now.limits most both.now.soc)
         (split_limits both.now.limits most both.now.soc) value
         × (text ≡ text_of_parts (parts_of both.now.soc both.now.limits most) value)) result }
 {
@@ -142,8 +149,8 @@ pub(crate) fn decide_split<H: Shelf>(
     requires { 1 ≤ most }
     ensures held_stays { H.held shelf.new ≡ H.held shelf.old }
     ensures faults_never_fall { H.faults shelf.old ≤ H.faults shelf.new }
-    ensures follows { Follows (procedure_of (SplitTests soc.now limits.now most)) (H.held shelf.old) (H.faults shelf.old)
-        (H.faults shelf.new) result }
+    ensures follows { Follows (procedure_of (SplitTests soc.now limits.now most)) (H.held shelf.old)
+        (H.faults shelf.old) (H.faults shelf.new) result }
     ensures by_loads { LoadsGive H.is_load (procedure_of (SplitTests soc.now limits.now most))
         shelf.old result shelf.new }
 {

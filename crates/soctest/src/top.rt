@@ -28,21 +28,24 @@ pub fn soctest<H: Shelf, K: Sink>(
     out: &mut K,
 ) -> Status
     ensures held_stays { H.held shelf.new ≡ H.held shelf.old }
-    ensures faults_never_fall { (H.faults shelf.old ≤ H.faults shelf.new) × (K.faults out.old ≤ K.faults out.new) }
+    ensures faults_never_fall { (H.faults shelf.old ≤ H.faults shelf.new)
+        × (K.faults out.old ≤ K.faults out.new) }
 
     // What every top call promises of its answer.
-    ensures answers { IsTopCall H.is_load K.is_put (fixes_text (command_of (map string_bytes words.now)))
-        (asked procedure_of (command_of (map string_bytes words.now)))
-        (H.held shelf.old) shelf.old shelf.new (H.faults shelf.old) (H.faults shelf.new) out.old out.new (K.faults out.old)
+    ensures answers { IsTopCall H.is_load K.is_put
+        (fixes_text (command_of (map string_bytes words.now)))
+        (asked procedure_of (command_of (map string_bytes words.now))) (H.held shelf.old) shelf.old
+        shelf.new (H.faults shelf.old) (H.faults shelf.new) out.old out.new (K.faults out.old)
         (K.faults out.new) (K.written out.old) result (K.written out.new) }
 
     // The headline: a plan that is printed or accepted, by any command, runs right, and its bound is one; so is the bound of a
     // tree that is accepted, and a plan of parts loads and reads each pattern of the chip that was cut exactly once.
-    ensures headline { Headline (command_of (map string_bytes words.now)) (H.held shelf.old) (K.written out.old) result
-        (K.written out.new) }
+    ensures headline { Headline (command_of (map string_bytes words.now)) (H.held shelf.old)
+        (K.written out.old) result (K.written out.new) }
 
     // That of `sample` asks nothing of the shelf.
-    ensures headline_of_sample { SampleHeadline (command_of (map string_bytes words.now)) (K.written out.old) result (K.written out.new) }
+    ensures headline_of_sample { SampleHeadline (command_of (map string_bytes words.now))
+        (K.written out.old) result (K.written out.new) }
 {
     good_plans_run_right();
     certificates_are_bounds();

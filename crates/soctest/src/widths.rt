@@ -34,7 +34,8 @@ fn push_module(
 ) -> Result<(), NoMemory>
     requires place { place < places_of table.now }
     requires module { slice_get table.now.soc.modules place ≡ Some (module_value «module».now) }
-    ensures { OnOk result (text.new.items ≡ text.old.items ++ module_widths table.now.wires (module_value «module».now)) }
+    ensures { OnOk result (text.new.items
+        ≡ text.old.items ++ module_widths table.now.wires (module_value «module».now)) }
 {
     if !table.has_tam_test(place) {
         return Ok(());

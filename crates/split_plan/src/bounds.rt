@@ -96,8 +96,11 @@ fn push_all_joined(
 ) -> Result<(), NoMemory>
     requires named { index.now.keys ≡ wholes cuts.now }
     requires room { All HasRoom cuts.now }
-    ensures { OnOk result (before.new.items ≡ before.old.items
-        ++ flat_map (λ (p : TestId × TestId). joined (the_cut cuts.now p.0) (the_cut cuts.now p.1)) pairs.now) }
+    ensures { OnOk result (before.new.items
+        ≡ before.old.items
+        ++ flat_map
+        (λ (p : TestId × TestId). joined (the_cut cuts.now p.0) (the_cut cuts.now p.1))
+        pairs.now) }
 {
     for (first, second) in pairs {
         push_joined(
@@ -145,7 +148,8 @@ fn kept_profiles(
 ) -> Result<Vec<Profile>, NoMemory>
     requires named { index.now.keys ≡ wholes cuts.now }
     requires room { All HasRoom cuts.now }
-    ensures { IfOk result (λ kept. map profile_value kept.items ≡ profiles_of cuts.now (map profile_value profiles.now)) }
+    ensures { IfOk result (λ kept. map profile_value kept.items
+        ≡ profiles_of cuts.now (map profile_value profiles.now)) }
 {
     let mut kept = Vec::new(alloc);
     for profile in profiles {

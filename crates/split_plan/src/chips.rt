@@ -53,7 +53,8 @@ fn part_tests(alloc: Global, cuts: &[Cut]) -> Result<Vec<Test>, NoMemory>
 
 /// A module with other tests.
 fn with_tests(alloc: Global, module: &Module, tests: Vec<Test>) -> Result<Module, NoMemory>
-    ensures { IfOk result (λ made. module_value made ≡ record (module_value «module».now) { tests = tests.items }) }
+    ensures { IfOk result
+        (λ made. module_value made ≡ record (module_value «module».now) { tests = tests.items }) }
 {
     let name = copied(alloc, &module.name)?;
     let chains = copied(alloc, &module.chains)?;
@@ -89,10 +90,12 @@ fn put_new(soc: &mut Soc, module: Module) -> Result<(), NoMemory>
 fn put_parts(alloc: Global, soc: &mut Soc, module: &Module, cuts: &[Cut]) -> Result<(), NoMemory>
     requires new { has_module_number (soc_value soc.old) «module».now.number ≡ false }
     requires room { All HasRoom cuts.now }
-    ensures { OnOk result (soc_value soc.new ≡ record (soc_value soc.old) {
-      keys = (soc_value soc.old).keys ++ «module».now.number ∷ [];
-      modules = (soc_value soc.old).modules ++ record (module_value «module».now) { tests = map part_test (pieces cuts.now) } ∷ [];
-    }) }
+    ensures { OnOk result (soc_value soc.new
+        ≡ record (soc_value soc.old) {
+          keys = (soc_value soc.old).keys ++ «module».now.number ∷ [];
+          modules = (soc_value soc.old).modules ++ record (module_value «module».now)
+              { tests = map part_test (pieces cuts.now) } ∷ [];
+        }) }
 {
     let tests = part_tests(alloc, cuts)?;
     let of_parts = with_tests(alloc, module, tests)?;
@@ -114,10 +117,12 @@ fn add_module(
     requires small { All (λ (t : Test). t.patterns < 10 ^ 12) «module».now.tests.items }
     requires few { length «module».now.tests.items ≤ 4096 }
     requires room { All HasRoom made.old.cuts.items }
-    ensures chip { OnOk result (soc_value made.new.soc ≡ record (soc_value made.old.soc) {
-      keys = (soc_value made.old.soc).keys ++ «module».now.number ∷ [];
-      modules = (soc_value made.old.soc).modules ++ split_module (limits_value limits.now) most (module_value «module».now) ∷ [];
-    }) }
+    ensures chip { OnOk result (soc_value made.new.soc
+        ≡ record (soc_value made.old.soc) {
+          keys = (soc_value made.old.soc).keys ++ «module».now.number ∷ [];
+          modules = (soc_value made.old.soc).modules ++ split_module (limits_value limits.now)
+              most (module_value «module».now) ∷ [];
+        }) }
     ensures cuts { OnOk result (made.new.cuts.items ≡ made.old.cuts.items
         ++ cuts_of_module (limits_value limits.now) most (module_value «module».now)) }
     ensures room { OnOk result (All HasRoom made.new.cuts.items) }
@@ -129,7 +134,8 @@ fn add_module(
 
 /// A chip with a name and flags and no module, and no tests.
 fn nothing_made(alloc: Global, soc: &Soc) -> Result<Made, NoMemory>
-    ensures chip { IfOk result (λ made. soc_value made.soc ≡ record (soc_value soc.now) { keys = []; modules = [] }) }
+    ensures chip { IfOk result
+        (λ made. soc_value made.soc ≡ record (soc_value soc.now) { keys = []; modules = [] }) }
     ensures cuts { IfOk result (λ made. made.cuts.items ≡ []) }
 {
     let name = copied(alloc, &soc.name)?;
@@ -146,7 +152,8 @@ fn nothing_made(alloc: Global, soc: &Soc) -> Result<Made, NoMemory>
 /// An index of the tests of profiles.
 fn index_of_profiles(alloc: Global, limits: &Limits) -> Result<IndexSet<TestId>, NoMemory>
     requires { AllDiffer (tests_of (limits_value limits.now).profiles) }
-    ensures { IfOk result (λ profiled. profiled.keys ≡ tests_of (limits_value limits.now).profiles) }
+    ensures { IfOk result
+        (λ profiled. profiled.keys ≡ tests_of (limits_value limits.now).profiles) }
 {
     let names = profile_names(alloc, &limits.profiles)?;
     index_of(alloc, &names)
@@ -161,13 +168,16 @@ fn add_modules(
     profiled: &IndexSet<TestId>,
     most: u64,
 ) -> Result<(), NoMemory>
-    requires no_module { soc_value made.old.soc ≡ record (soc_value soc.now) { keys = []; modules = [] } }
+    requires no_module { soc_value made.old.soc
+        ≡ record (soc_value soc.now) { keys = []; modules = [] } }
     requires no_cut { made.old.cuts.items ≡ [] }
     requires chip { IsSoundChip (soc_value soc.now) }
     requires named { profiled.now.keys ≡ tests_of (limits_value limits.now).profiles }
     requires some { 1 ≤ most }
-    ensures chip { OnOk result (soc_value made.new.soc ≡ split_chip (limits_value limits.now) most (soc_value soc.now)) }
-    ensures cuts { OnOk result (made.new.cuts.items ≡ all_cuts (limits_value limits.now) most (soc_value soc.now)) }
+    ensures chip { OnOk result
+        (soc_value made.new.soc ≡ split_chip (limits_value limits.now) most (soc_value soc.now)) }
+    ensures cuts { OnOk result
+        (made.new.cuts.items ≡ all_cuts (limits_value limits.now) most (soc_value soc.now)) }
     ensures room { OnOk result (All HasRoom made.new.cuts.items) }
 {
     for module in soc.modules.values() {
@@ -187,8 +197,10 @@ fn made_of(
     requires chip { IsSoundChip (soc_value soc.now) }
     requires named { profiled.now.keys ≡ tests_of (limits_value limits.now).profiles }
     requires some { 1 ≤ most }
-    ensures chip { IfOk result (λ made. soc_value made.soc ≡ split_chip (limits_value limits.now) most (soc_value soc.now)) }
-    ensures cuts { IfOk result (λ made. made.cuts.items ≡ all_cuts (limits_value limits.now) most (soc_value soc.now)) }
+    ensures chip { IfOk result (λ made. soc_value made.soc
+        ≡ split_chip (limits_value limits.now) most (soc_value soc.now)) }
+    ensures cuts { IfOk result
+        (λ made. made.cuts.items ≡ all_cuts (limits_value limits.now) most (soc_value soc.now)) }
     ensures room { IfOk result (λ made. All HasRoom made.cuts.items) }
 {
     let mut made = nothing_made(alloc, soc)?;
@@ -206,8 +218,10 @@ pub(crate) fn cut_chip(
     requires chip { IsSoundChip (soc_value soc.now) }
     requires limits { IsSoundLimits (soc_value soc.now) (limits_value limits.now) }
     requires some { 1 ≤ most }
-    ensures chip { IfOk result (λ made. soc_value made.soc ≡ split_chip (limits_value limits.now) most (soc_value soc.now)) }
-    ensures cuts { IfOk result (λ made. made.cuts.items ≡ all_cuts (limits_value limits.now) most (soc_value soc.now)) }
+    ensures chip { IfOk result (λ made. soc_value made.soc
+        ≡ split_chip (limits_value limits.now) most (soc_value soc.now)) }
+    ensures cuts { IfOk result
+        (λ made. made.cuts.items ≡ all_cuts (limits_value limits.now) most (soc_value soc.now)) }
     ensures room { IfOk result (λ made. All HasRoom made.cuts.items) }
 {
     let profiled = index_of_profiles(alloc, limits)?;

@@ -128,7 +128,8 @@ pub(crate) fn cuts_in(
     requires some { 1 ≤ most }
     requires small { All (λ (t : Test). t.patterns < 10 ^ 12) «module».now.tests.items }
     requires few { length «module».now.tests.items ≤ 4096 }
-    ensures cuts { IfOk result (λ cuts. cuts.items ≡ cuts_of_module (limits_value limits.now) most (module_value «module».now)) }
+    ensures cuts { IfOk result (λ cuts. cuts.items
+        ≡ cuts_of_module (limits_value limits.now) most (module_value «module».now)) }
     ensures room { IfOk result (λ cuts. All HasRoom cuts.items) }
 {
     let mut cuts = Vec::new(alloc);

@@ -71,7 +71,8 @@ fn made(alloc: Global, soc: &Soc, limits: &Limits, most: u64) -> Result<Split, N
     requires chip { IsSoundChip (soc_value soc.now) }
     requires limits { IsSoundLimits (soc_value soc.now) (limits_value limits.now) }
     requires most { 1 ≤ most }
-    ensures { IfOk result (λ split. split_value split ≡ split_of (soc_value soc.now) (limits_value limits.now) most) }
+    ensures { IfOk result
+        (λ split. split_value split ≡ split_of (soc_value soc.now) (limits_value limits.now) most) }
 {
     let cut = cut_chip(alloc, soc, limits, most)?;
     let limits = bounds::limits_of(alloc, limits, cut.cuts.as_slice())?;
@@ -93,12 +94,16 @@ pub fn split_soc(alloc: Global, soc: &Soc, limits: &Limits, most: u64) -> Result
     requires chip { IsSoundChip (soc_value soc.now) }
     requires limits { IsSoundLimits (soc_value soc.now) (limits_value limits.now) }
     requires most { 1 ≤ most }
-    ensures parts { IfOk result (λ split. split_value split ≡ split_of (soc_value soc.now) (limits_value limits.now) most) }
+    ensures parts { IfOk result
+        (λ split. split_value split ≡ split_of (soc_value soc.now) (limits_value limits.now) most) }
     ensures sound_chip { IfOk result (λ split. IsSoundChip (soc_value split.soc)) }
-    ensures sound_limits { IfOk result (λ split. IsSoundLimits (soc_value split.soc) (limits_value split.limits)) }
+    ensures sound_limits { IfOk result
+        (λ split. IsSoundLimits (soc_value split.soc) (limits_value split.limits)) }
     ensures once { IfOk result (λ split. EachPatternOnce (soc_value soc.now) split.parts.items) }
-    ensures tests { IfOk result (λ split. AreParts (soc_value soc.now) (soc_value split.soc) split.parts.items) }
-    ensures refused { IfErr result (IsRefusal (split_chip (limits_value limits.now) most (soc_value soc.now))) }
+    ensures tests { IfOk result
+        (λ split. AreParts (soc_value soc.now) (soc_value split.soc) split.parts.items) }
+    ensures refused { IfErr result
+        (IsRefusal (split_chip (limits_value limits.now) most (soc_value soc.now))) }
     ensures contents { IfOk result (λ split. EachContentInParts split.parts.items) }
 {
     check_numbers(soc, most)?;

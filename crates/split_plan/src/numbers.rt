@@ -64,7 +64,8 @@ fn work_of(test: &Test, cells: u128, setup: u64, most: u64) -> u128
     requires patterns { test.now.patterns < 10 ^ 12 }
     requires cells { cells < 10 ^ 16 }
     requires setup { setup < 10 ^ 12 }
-    ensures work { result ≡ test.now.patterns * cells + (if test.now.tam then setup * parts_of most test.now else 0) }
+    ensures work { result
+        ≡ test.now.patterns * cells + (if test.now.tam then setup * parts_of most test.now else 0) }
     ensures bounded { result ≤ 2 * 10 ^ 28 }
 {
     let setup = if test.tam {
@@ -113,7 +114,8 @@ pub(crate) fn check_numbers(soc: &Soc, most: u64) -> Result<(), SplitFault>
     requires sound { IsSoundChip (soc_value soc.now) }
     ensures fits { OnOk result ((limits : LimitsValue) → IsSoundLimits (soc_value soc.now) limits →
         IsWithinSize (split_chip limits most (soc_value soc.now))) }
-    ensures refused { IfErr result (λ fault. (limits : LimitsValue) → IsSoundLimits (soc_value soc.now) limits →
+    ensures refused { IfErr result
+        (λ fault. (limits : LimitsValue) → IsSoundLimits (soc_value soc.now) limits →
         IsRefusal (split_chip limits most (soc_value soc.now)) fault) }
 {
     let tests = count_all(soc, most);

@@ -65,7 +65,8 @@ fn part_at(cut: &Cut, place: u64) -> Part
 /// Adds the tests that the parts of a test are.
 pub(crate) fn push_tests(tests: &mut Vec<Test>, cut: &Cut) -> Result<(), NoMemory>
     requires { HasRoom cut.now }
-    ensures { OnOk result (tests.new.items ≡ tests.old.items ++ map test_of_part (pieces_of cut.now)) }
+    ensures { OnOk result
+        (tests.new.items ≡ tests.old.items ++ map test_of_part (pieces_of cut.now)) }
 {
     for place in 0..cut.count {
         push(tests, part_test(cut, place))?;

@@ -59,7 +59,8 @@ fn push_range(text: &mut Vec<u8>, wires: usize) -> Result<(), NoMemory>
 /// Appends the signals of the wires, where there are any.
 #[tactic(auto, unfolding(crate::specs::StilText::wire_signals))]
 fn push_wire_signals(text: &mut Vec<u8>, wires: usize) -> Result<(), NoMemory>
-    ensures { OnOk result (text.new.items ≡ text.old.items ++ where_some wires (wire_signals wires)) }
+    ensures { OnOk result
+        (text.new.items ≡ text.old.items ++ where_some wires (wire_signals wires)) }
 {
     if wires == 0 {
         return Ok(());
@@ -95,7 +96,8 @@ fn push_signals(text: &mut Vec<u8>, wires: usize, controls: &[Control]) -> Resul
 /// Appends the groups of the wires, where there are any.
 #[tactic(auto, unfolding(crate::specs::StilText::wire_groups))]
 fn push_wire_groups(text: &mut Vec<u8>, wires: usize) -> Result<(), NoMemory>
-    ensures { OnOk result (text.new.items ≡ text.old.items ++ where_some wires (wire_groups wires)) }
+    ensures { OnOk result
+        (text.new.items ≡ text.old.items ++ where_some wires (wire_groups wires)) }
 {
     if wires == 0 {
         return Ok(());

@@ -55,7 +55,8 @@ impl StilForm {
     fn put_wires(&self, row: Row<'_>, text: &mut [u8], at: usize) -> usize
         requires row { HasSizes self.now.wires self.now.controls (row_of row) }
         requires room { at + (2 * self.now.wires + 12) ≤ length text.old }
-        ensures { IsPutAt at (wire_bits row.entry.driven.now row.entry.compared.now) result text.old text.new }
+        ensures { IsPutAt at (wire_bits row.entry.driven.now row.entry.compared.now) result text.old
+            text.new }
     {
         if self.wires == 0 {
             return at;

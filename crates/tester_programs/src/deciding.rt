@@ -23,7 +23,8 @@ fn program_or_refusal(
     test_data: TestData,
 ) -> ProgramEnding
     ensures continues { (held : Option Files) (before after : ℕ) →
-        Continues (with_program language all.soc all.plan test_data) held before after (ending_value result) }
+        Continues (with_program language all.soc all.plan test_data) held before after
+        (ending_value result) }
     ensures runnable { IsRunnable result }
 {
     match long_run(&all) {
@@ -75,10 +76,11 @@ fn decide_program<H: Shelf>(
 ) -> ProgramEnding
     ensures held_stays { H.held shelf.new ≡ H.held shelf.old }
     ensures faults_never_fall { H.faults shelf.old ≤ H.faults shelf.new }
-    ensures closes { Closes (program_procedure language soc.now limits.now plan.now name.now) (H.held shelf.old)
-        (H.faults shelf.old) (H.faults shelf.new) (ending_value result) }
+    ensures closes { Closes (program_procedure language soc.now limits.now plan.now name.now)
+        (H.held shelf.old) (H.faults shelf.old) (H.faults shelf.new) (ending_value result) }
     ensures by_loads { LoadsEnding H.is_load
-        (program_procedure language soc.now limits.now plan.now name.now) shelf.old (ending_value result) shelf.new }
+        (program_procedure language soc.now limits.now plan.now name.now) shelf.old
+        (ending_value result) shelf.new }
     ensures runnable { IsRunnable result }
 {
     match load_all(alloc, soc, limits, plan, shelf) {
@@ -91,13 +93,15 @@ fn decide_program<H: Shelf>(
 pub(crate) fn decide<H: Shelf>(alloc: Global, words: &[String], shelf: &mut H) -> ProgramEnding
     ensures held_stays { H.held shelf.new ≡ H.held shelf.old }
     ensures faults_never_fall { H.faults shelf.old ≤ H.faults shelf.new }
-    ensures closes { Closes (asked procedure_of (asked_command (map string_bytes words.now))) (H.held shelf.old) (H.faults shelf.old)
-        (H.faults shelf.new) (ending_value result) }
+    ensures closes { Closes (asked procedure_of (asked_command (map string_bytes words.now)))
+        (H.held shelf.old) (H.faults shelf.old) (H.faults shelf.new) (ending_value result) }
     ensures by_loads { LoadsEnding H.is_load
         (asked procedure_of (asked_command (map string_bytes words.now)))
         shelf.old (ending_value result) shelf.new }
     ensures runnable { IsRunnable result }
-    ensures untouched { (IsCommand (asked procedure_of (asked_command (map string_bytes words.now))) → ⊥) → shelf.new ≡ shelf.old }
+    ensures untouched { (IsCommand
+        (asked procedure_of (asked_command (map string_bytes words.now))) → ⊥) →
+        shelf.new ≡ shelf.old }
 {
     match command_of(words) {
         Some(

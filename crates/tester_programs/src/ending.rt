@@ -60,10 +60,11 @@ fn write_in_form<F: CycleForm, K: Sink>(
     requires wires { F.wires_of form.now ≡ wires_of placed.now.plan }
     requires controls { F.controls_of form.now ≡ length (controls placed.now.soc) }
     ensures faults_never_fall { K.faults out.old ≤ K.faults out.new }
-    ensures written { WritesUnless None (program_text (F.head_of form.now) (F.part_of form.now) (F.tail_of form.now)
-        placed.now.soc placed.now.plan (data_content placed.now.soc test_data.now)
-        (data_marks placed.now.soc test_data.now))
-        (K.faults out.old) (K.faults out.new) (K.written out.old) result (K.written out.new) }
+    ensures written { WritesUnless None
+        (program_text (F.head_of form.now) (F.part_of form.now) (F.tail_of form.now) placed.now.soc
+        placed.now.plan (data_content placed.now.soc test_data.now)
+        (data_marks placed.now.soc test_data.now)) (K.faults out.old) (K.faults out.new)
+        (K.written out.old) result (K.written out.new) }
     ensures puts { MakesPuts K.is_put out.old result out.new }
 {
     // opened, so that its chip is known to be sound
@@ -86,7 +87,8 @@ fn write_stil<K: Sink>(
     requires narrow { wires_of placed.now.plan ≤ 256 }
     requires cycles { placed.now.plan.cycles ≤ CYCLE_MOST }
     ensures faults_never_fall { K.faults out.old ≤ K.faults out.new }
-    ensures written { WritesUnless None (tester_program Language.Stil placed.now.soc placed.now.plan test_data.now)
+    ensures written { WritesUnless None
+        (tester_program Language.Stil placed.now.soc placed.now.plan test_data.now)
         (K.faults out.old) (K.faults out.new) (K.written out.old) result (K.written out.new) }
     ensures puts { MakesPuts K.is_put out.old result out.new }
 {
@@ -106,7 +108,8 @@ fn write_vcd<K: Sink>(
     requires narrow { wires_of placed.now.plan ≤ 256 }
     requires cycles { placed.now.plan.cycles ≤ CYCLE_MOST }
     ensures faults_never_fall { K.faults out.old ≤ K.faults out.new }
-    ensures written { WritesUnless None (tester_program Language.Vcd placed.now.soc placed.now.plan test_data.now)
+    ensures written { WritesUnless None
+        (tester_program Language.Vcd placed.now.soc placed.now.plan test_data.now)
         (K.faults out.old) (K.faults out.new) (K.written out.old) result (K.written out.new) }
     ensures puts { MakesPuts K.is_put out.old result out.new }
 {
@@ -126,7 +129,8 @@ fn write_verilog<K: Sink>(
     requires narrow { wires_of placed.now.plan ≤ 256 }
     requires cycles { placed.now.plan.cycles ≤ CYCLE_MOST }
     ensures faults_never_fall { K.faults out.old ≤ K.faults out.new }
-    ensures written { WritesUnless None (tester_program Language.Verilog placed.now.soc placed.now.plan test_data.now)
+    ensures written { WritesUnless None
+        (tester_program Language.Verilog placed.now.soc placed.now.plan test_data.now)
         (K.faults out.old) (K.faults out.new) (K.written out.old) result (K.written out.new) }
     ensures puts { MakesPuts K.is_put out.old result out.new }
 {
@@ -147,8 +151,9 @@ fn write_in_language<K: Sink>(
     requires narrow { wires_of placed.now.plan ≤ 256 }
     requires cycles { placed.now.plan.cycles ≤ CYCLE_MOST }
     ensures faults_never_fall { K.faults out.old ≤ K.faults out.new }
-    ensures written { WritesUnless None (tester_program language placed.now.soc placed.now.plan test_data.now)
-        (K.faults out.old) (K.faults out.new) (K.written out.old) result (K.written out.new) }
+    ensures written { WritesUnless None
+        (tester_program language placed.now.soc placed.now.plan test_data.now) (K.faults out.old)
+        (K.faults out.new) (K.written out.old) result (K.written out.new) }
     ensures puts { MakesPuts K.is_put out.old result out.new }
 {
     match language {
@@ -168,8 +173,9 @@ fn write_accepted<K: Sink>(
 ) -> Status
     requires { all.now.plan.cycles ≤ CYCLE_MOST }
     ensures faults_never_fall { K.faults out.old ≤ K.faults out.new }
-    ensures written { WritesUnless None (tester_program language all.now.soc all.now.plan test_data.now)
-        (K.faults out.old) (K.faults out.new) (K.written out.old) result (K.written out.new) }
+    ensures written { WritesUnless None
+        (tester_program language all.now.soc all.now.plan test_data.now) (K.faults out.old)
+        (K.faults out.new) (K.written out.old) result (K.written out.new) }
     ensures puts { MakesPuts K.is_put out.old result out.new }
 {
     write_in_language(alloc, language, &all.placed_plan(), test_data, out)
@@ -179,8 +185,8 @@ fn write_accepted<K: Sink>(
 pub fn write_ending<K: Sink>(alloc: Global, ending: ProgramEnding, out: &mut K) -> Status
     requires { IsRunnable ending }
     ensures faults_never_fall { K.faults out.old ≤ K.faults out.new }
-    ensures written { WritesEnding (ending_value ending) (K.faults out.old) (K.faults out.new) (K.written out.old) result
-        (K.written out.new) }
+    ensures written { WritesEnding (ending_value ending) (K.faults out.old) (K.faults out.new)
+        (K.written out.old) result (K.written out.new) }
     ensures puts { PutsEnding K.is_put (ending_value ending) out.old result out.new }
 {
     match ending {

@@ -77,8 +77,10 @@ pub fn write_lines<C: Contents, K: Sink>(
     requires { wires_of placed.now.plan ≤ 256 }
     ensures faults_never_fall { K.faults out.old ≤ K.faults out.new }
     ensures written { result ≡ LinesOutcome.Written → (content : Content) (marks : Marks) →
-        StandFor (C.keys contents.now) (C.drive contents.now) (C.mark contents.now) placed.now.soc content marks →
-        Appended (K.written out.old) (marked_text placed.now.soc placed.now.plan content marks) (K.written out.new) }
+        StandFor (C.keys contents.now) (C.drive contents.now) (C.mark contents.now) placed.now.soc
+        content marks →
+        Appended (K.written out.old) (marked_text placed.now.soc placed.now.plan content marks)
+        (K.written out.new) }
     ensures marks { (marks : Marks) → MarksStand placed.now.soc placed.now.plan marks }
     ensures no_memory_writes_nothing { result ≡ LinesOutcome.NoMemory → out.new ≡ out.old }
 
@@ -88,8 +90,10 @@ pub fn write_lines<C: Contents, K: Sink>(
 
     ensures fault { result ≡ LinesOutcome.WriteFault → Rose (K.faults out.old) (K.faults out.new) }
     ensures front { result ≡ LinesOutcome.WriteFault → (content : Content) (marks : Marks) →
-        StandFor (C.keys contents.now) (C.drive contents.now) (C.mark contents.now) placed.now.soc content marks →
-        AppendedFront (K.written out.old) (marked_text placed.now.soc placed.now.plan content marks) (K.written out.new) }
+        StandFor (C.keys contents.now) (C.drive contents.now) (C.mark contents.now) placed.now.soc
+        content marks →
+        AppendedFront (K.written out.old) (marked_text placed.now.soc placed.now.plan content marks)
+        (K.written out.new) }
 {
     let mut run = match Run::new(alloc, placed, contents, all_wires(placed.plan)) {
         Ok(run) => run,
@@ -117,14 +121,18 @@ fn lines_by<K: Sink>(
     requires names { names.now ≡ live_ids (soc_value soc.now) }
     requires places { IsPlaced (soc_value soc.now) (plan_value plan.now) places.now }
     ensures faults_never_fall { K.faults out.old ≤ K.faults out.new }
-    ensures written { result ≡ LinesOutcome.Written → Appended (K.written out.old)
-        (whole_text (soc_value soc.now) (plan_value plan.now) (made_content (soc_value soc.now) seed)) (K.written out.new) }
+    ensures written { result ≡ LinesOutcome.Written →
+        Appended (K.written out.old)
+        (whole_text (soc_value soc.now) (plan_value plan.now)
+        (made_content (soc_value soc.now) seed)) (K.written out.new) }
     ensures no_memory_writes_nothing { result ≡ LinesOutcome.NoMemory → out.new ≡ out.old }
     ensures none_failed { result ≡ LinesOutcome.Written → Puts K.is_put out.old false out.new }
     ensures last_failed { result ≡ LinesOutcome.WriteFault → Puts K.is_put out.old true out.new }
     ensures fault { result ≡ LinesOutcome.WriteFault → Rose (K.faults out.old) (K.faults out.new) }
-    ensures front { result ≡ LinesOutcome.WriteFault → AppendedFront (K.written out.old)
-        (whole_text (soc_value soc.now) (plan_value plan.now) (made_content (soc_value soc.now) seed)) (K.written out.new) }
+    ensures front { result ≡ LinesOutcome.WriteFault →
+        AppendedFront (K.written out.old)
+        (whole_text (soc_value soc.now) (plan_value plan.now)
+        (made_content (soc_value soc.now) seed)) (K.written out.new) }
 {
     let placed = PlacedPlan::new(soc, plan, names, places);
     made_contents_stand();
@@ -143,14 +151,18 @@ fn lines_of_plan<K: Sink>(
     requires good { IsGoodAlone (soc_value soc.now) (plan_value plan.now) }
     requires narrow { wires_of (plan_value plan.now) ≤ 256 }
     ensures faults_never_fall { K.faults out.old ≤ K.faults out.new }
-    ensures written { result ≡ LinesOutcome.Written → Appended (K.written out.old)
-        (whole_text (soc_value soc.now) (plan_value plan.now) (made_content (soc_value soc.now) seed)) (K.written out.new) }
+    ensures written { result ≡ LinesOutcome.Written →
+        Appended (K.written out.old)
+        (whole_text (soc_value soc.now) (plan_value plan.now)
+        (made_content (soc_value soc.now) seed)) (K.written out.new) }
     ensures no_memory_writes_nothing { result ≡ LinesOutcome.NoMemory → out.new ≡ out.old }
     ensures none_failed { result ≡ LinesOutcome.Written → Puts K.is_put out.old false out.new }
     ensures last_failed { result ≡ LinesOutcome.WriteFault → Puts K.is_put out.old true out.new }
     ensures fault { result ≡ LinesOutcome.WriteFault → Rose (K.faults out.old) (K.faults out.new) }
-    ensures front { result ≡ LinesOutcome.WriteFault → AppendedFront (K.written out.old)
-        (whole_text (soc_value soc.now) (plan_value plan.now) (made_content (soc_value soc.now) seed)) (K.written out.new) }
+    ensures front { result ≡ LinesOutcome.WriteFault →
+        AppendedFront (K.written out.old)
+        (whole_text (soc_value soc.now) (plan_value plan.now)
+        (made_content (soc_value soc.now) seed)) (K.written out.new) }
 {
     let Ok(names) = LiveTests::new(alloc, soc) else {
         return LinesOutcome::NoMemory;
@@ -185,16 +197,22 @@ pub fn write_vectors<K: Sink>(
     requires good { IsGoodAlone (soc_value soc.now) (plan_value plan.now) }
     requires narrow { wires_of (plan_value plan.now) ≤ 256 }
     ensures faults_never_fall { K.faults out.old ≤ K.faults out.new }
-    ensures written { result ≡ Outcome.Written → Appended (K.written out.old)
-        (whole_text (soc_value soc.now) (plan_value plan.now) (made_content (soc_value soc.now) seed)) (K.written out.new) }
-    ensures run { RunsAsShown (soc_value soc.now) (plan_value plan.now) (made_content (soc_value soc.now) seed)
-        (whole_text (soc_value soc.now) (plan_value plan.now) (made_content (soc_value soc.now) seed)) }
-    ensures marks { MarksReads (soc_value soc.now) (plan_value plan.now) (made_content (soc_value soc.now) seed) }
+    ensures written { result ≡ Outcome.Written →
+        Appended (K.written out.old)
+        (whole_text (soc_value soc.now) (plan_value plan.now)
+        (made_content (soc_value soc.now) seed)) (K.written out.new) }
+    ensures run { RunsAsShown (soc_value soc.now) (plan_value plan.now)
+        (made_content (soc_value soc.now) seed) (whole_text (soc_value soc.now)
+        (plan_value plan.now) (made_content (soc_value soc.now) seed)) }
+    ensures marks { MarksReads (soc_value soc.now) (plan_value plan.now)
+        (made_content (soc_value soc.now) seed) }
 
     ensures too_long { RUN_MOST < cycles_by_wires (plan_value plan.now) →
         result ≡ Outcome.RunTooLong (cycles_by_wires (plan_value plan.now)) }
-    ensures only { (cells : ℕ) → result ≡ Outcome.RunTooLong cells → RUN_MOST < cycles_by_wires (plan_value plan.now) }
-    ensures too_long_writes_nothing { (cells : ℕ) → result ≡ Outcome.RunTooLong cells → out.new ≡ out.old }
+    ensures only { (cells : ℕ) → result ≡ Outcome.RunTooLong cells →
+        RUN_MOST < cycles_by_wires (plan_value plan.now) }
+    ensures too_long_writes_nothing { (cells : ℕ) → result ≡ Outcome.RunTooLong cells →
+        out.new ≡ out.old }
     ensures no_memory_writes_nothing { result ≡ Outcome.NoMemory → out.new ≡ out.old }
 
     // No put fails but the last one, and none is empty.
@@ -202,8 +220,10 @@ pub fn write_vectors<K: Sink>(
     ensures last_failed { result ≡ Outcome.WriteFault → Puts K.is_put out.old true out.new }
 
     ensures fault { result ≡ Outcome.WriteFault → Rose (K.faults out.old) (K.faults out.new) }
-    ensures front { result ≡ Outcome.WriteFault → AppendedFront (K.written out.old)
-        (whole_text (soc_value soc.now) (plan_value plan.now) (made_content (soc_value soc.now) seed)) (K.written out.new) }
+    ensures front { result ≡ Outcome.WriteFault →
+        AppendedFront (K.written out.old)
+        (whole_text (soc_value soc.now) (plan_value plan.now)
+        (made_content (soc_value soc.now) seed)) (K.written out.new) }
 {
     if let Some(cells) = too_many_cells(plan) {
         return Outcome::RunTooLong { cells };
@@ -224,16 +244,20 @@ pub fn write_made<K: Sink>(
 ) -> Outcome
     requires { wires_of placed.now.plan ≤ 256 }
     ensures faults_never_fall { K.faults out.old ≤ K.faults out.new }
-    ensures written { result ≡ Outcome.Written → Appended (K.written out.old)
-        (whole_text placed.now.soc placed.now.plan (made_content placed.now.soc seed)) (K.written out.new) }
+    ensures written { result ≡ Outcome.Written →
+        Appended (K.written out.old)
+        (whole_text placed.now.soc placed.now.plan (made_content placed.now.soc seed))
+        (K.written out.new) }
     ensures run { RunsAsShown placed.now.soc placed.now.plan (made_content placed.now.soc seed)
         (whole_text placed.now.soc placed.now.plan (made_content placed.now.soc seed)) }
     ensures marks { MarksReads placed.now.soc placed.now.plan (made_content placed.now.soc seed) }
 
     ensures too_long { RUN_MOST < cycles_by_wires placed.now.plan →
         result ≡ Outcome.RunTooLong (cycles_by_wires placed.now.plan) }
-    ensures only { (cells : ℕ) → result ≡ Outcome.RunTooLong cells → RUN_MOST < cycles_by_wires placed.now.plan }
-    ensures too_long_writes_nothing { (cells : ℕ) → result ≡ Outcome.RunTooLong cells → out.new ≡ out.old }
+    ensures only { (cells : ℕ) → result ≡ Outcome.RunTooLong cells →
+        RUN_MOST < cycles_by_wires placed.now.plan }
+    ensures too_long_writes_nothing { (cells : ℕ) → result ≡ Outcome.RunTooLong cells →
+        out.new ≡ out.old }
     ensures no_memory_writes_nothing { result ≡ Outcome.NoMemory → out.new ≡ out.old }
 
     // No put fails but the last one, and none is empty.
@@ -241,8 +265,10 @@ pub fn write_made<K: Sink>(
     ensures last_failed { result ≡ Outcome.WriteFault → Puts K.is_put out.old true out.new }
 
     ensures fault { result ≡ Outcome.WriteFault → Rose (K.faults out.old) (K.faults out.new) }
-    ensures front { result ≡ Outcome.WriteFault → AppendedFront (K.written out.old)
-        (whole_text placed.now.soc placed.now.plan (made_content placed.now.soc seed)) (K.written out.new) }
+    ensures front { result ≡ Outcome.WriteFault →
+        AppendedFront (K.written out.old)
+        (whole_text placed.now.soc placed.now.plan (made_content placed.now.soc seed))
+        (K.written out.new) }
 {
     if let Some(cells) = too_many_cells(placed.plan) {
         return Outcome::RunTooLong { cells };

@@ -150,9 +150,11 @@ impl<'a> Run<'a> {
         ensures line { self.new.line ≡ self.old.line }
         ensures size { result * self.new.line ≤ length self.new.block.items }
         ensures text { (content : Content) (marks : Marks) →
-            StandFor (C.keys contents.now) (C.drive contents.now) (C.mark contents.now) (soc_value self.old.soc.now) content marks →
+            StandFor (C.keys contents.now) (C.drive contents.now) (C.mark contents.now)
+            (soc_value self.old.soc.now) content marks →
             take (result * self.new.line) self.new.block.items
-            ≡ lines_of (soc_value self.old.soc.now) (plan_value self.old.plan.now) content marks done result }
+            ≡ lines_of (soc_value self.old.soc.now) (plan_value self.old.plan.now) content marks
+            done result }
     {
         let count = self.lines.min(self.plan.cycles - done);
         self.vectors
@@ -169,13 +171,17 @@ impl<'a> Run<'a> {
         requires run { IsRun (C.keys contents.now) self.old }
         ensures faults_never_fall { K.faults out.old ≤ K.faults out.new }
         ensures all { (content : Content) (marks : Marks) →
-            StandFor (C.keys contents.now) (C.drive contents.now) (C.mark contents.now) (soc_value self.old.soc.now) content marks →
+            StandFor (C.keys contents.now) (C.drive contents.now) (C.mark contents.now)
+            (soc_value self.old.soc.now) content marks →
             OnOk result (Appended (K.written out.old)
-            (marked_text (soc_value self.old.soc.now) (plan_value self.old.plan.now) content marks) (K.written out.new)) }
+            (marked_text (soc_value self.old.soc.now) (plan_value self.old.plan.now) content
+            marks) (K.written out.new)) }
         ensures front { (content : Content) (marks : Marks) →
-            StandFor (C.keys contents.now) (C.drive contents.now) (C.mark contents.now) (soc_value self.old.soc.now) content marks →
+            StandFor (C.keys contents.now) (C.drive contents.now) (C.mark contents.now)
+            (soc_value self.old.soc.now) content marks →
             OnErr result (AppendedFront (K.written out.old)
-            (marked_text (soc_value self.old.soc.now) (plan_value self.old.plan.now) content marks) (K.written out.new)) }
+            (marked_text (soc_value self.old.soc.now) (plan_value self.old.plan.now) content
+            marks) (K.written out.new)) }
         ensures fault { OnErr result (Rose (K.faults out.old) (K.faults out.new)) }
         ensures none_failed { OnOk result (Puts K.is_put out.old false out.new) }
         ensures last_failed { OnErr result (Puts K.is_put out.old true out.new) }
@@ -198,13 +204,17 @@ impl<'a> Run<'a> {
         requires cycles { cycles ≡ (plan_value self.old.plan.now).cycles }
         ensures faults_never_fall { K.faults out.old ≤ K.faults out.new }
         ensures all { (content : Content) (marks : Marks) →
-            StandFor (C.keys contents.now) (C.drive contents.now) (C.mark contents.now) (soc_value self.old.soc.now) content marks →
+            StandFor (C.keys contents.now) (C.drive contents.now) (C.mark contents.now)
+            (soc_value self.old.soc.now) content marks →
             OnOk result (Appended (K.written out.old)
-            (lines_of (soc_value self.old.soc.now) (plan_value self.old.plan.now) content marks 0 cycles) (K.written out.new)) }
+            (lines_of (soc_value self.old.soc.now) (plan_value self.old.plan.now) content marks
+            0 cycles) (K.written out.new)) }
         ensures front { (content : Content) (marks : Marks) →
-            StandFor (C.keys contents.now) (C.drive contents.now) (C.mark contents.now) (soc_value self.old.soc.now) content marks →
+            StandFor (C.keys contents.now) (C.drive contents.now) (C.mark contents.now)
+            (soc_value self.old.soc.now) content marks →
             OnErr result (AppendedFront (K.written out.old)
-            (lines_of (soc_value self.old.soc.now) (plan_value self.old.plan.now) content marks 0 cycles) (K.written out.new)) }
+            (lines_of (soc_value self.old.soc.now) (plan_value self.old.plan.now) content marks
+            0 cycles) (K.written out.new)) }
         ensures fault { OnErr result (Rose (K.faults out.old) (K.faults out.new)) }
         ensures none_failed { OnOk result (Puts K.is_put out.old false out.new) }
         ensures last_failed { OnErr result (Puts K.is_put out.old true out.new) }

@@ -19,7 +19,9 @@ fn put_wire_value(codes: &[Code], wire: usize, row: Row<'_>, text: &mut [u8], at
     requires room { at + 16 ≤ length text.old }
     ensures within { result ≤ at + 16 }
     ensures put { IsPutAt at
-        (flat_map change_line (changes (λ s. true) (row_of row.entry) (2 * wire) (sources_of_wire wire))) result text.old text.new }
+        (flat_map change_line
+        (changes (λ s. true) (row_of row.entry) (2 * wire) (sources_of_wire wire))) result
+        text.old text.new }
 {
     let (driven, compared) = (&codes[2 * wire], &codes[2 * wire + 1]);
     let end = put_value(text, at, row.driven[wire], driven);
@@ -45,9 +47,8 @@ fn put_wire_change(
     requires room { at + 16 ≤ length text.old }
     ensures within { result ≤ at + 16 }
     ensures put { IsPutAt at
-        (flat_map change_line
-        (changes (has_changed (row_of before.entry) (row_of row.entry)) (row_of row.entry) (2 * wire) (sources_of_wire wire)))
-        result text.old text.new }
+        (flat_map change_line (changes (has_changed (row_of before.entry) (row_of row.entry))
+        (row_of row.entry) (2 * wire) (sources_of_wire wire))) result text.old text.new }
 {
     let (driven, compared) = (&codes[2 * wire], &codes[2 * wire + 1]);
     let end = put_change(text, at, before.driven[wire], row.driven[wire], driven);
@@ -71,7 +72,8 @@ pub fn put_wire_values(
     requires room { at + 16 * wires ≤ length text.old }
     ensures within { result ≤ at + 16 * wires }
     ensures put { IsPutAt at
-        (flat_map change_line (changes (λ s. true) (row_of row.entry) 0 (wire_sources wires))) result text.old text.new }
+        (flat_map change_line (changes (λ s. true) (row_of row.entry) 0 (wire_sources wires)))
+        result text.old text.new }
 {
     let mut end = at;
     for wire in 0..wires {
@@ -99,8 +101,8 @@ pub fn put_wire_changes(
     requires room { at + 16 * wires ≤ length text.old }
     ensures within { result ≤ at + 16 * wires }
     ensures put { IsPutAt at
-        (flat_map change_line (changes (has_changed (row_of before.entry) (row_of row.entry)) (row_of row.entry) 0 (wire_sources wires)))
-        result text.old text.new }
+        (flat_map change_line (changes (has_changed (row_of before.entry) (row_of row.entry))
+        (row_of row.entry) 0 (wire_sources wires))) result text.old text.new }
 {
     let mut end = at;
     for wire in 0..wires {
@@ -120,11 +122,14 @@ pub fn put_control_values(
 ) -> usize
     requires codes { AreCodes (length codes.now) codes.now }
     requires coded { length codes.now ≡ first + length places.now }
-    requires there { (i : ℕ) → i < length places.now → slice_index places.now i < length row.controls.now }
+    requires there { (i : ℕ) → i < length places.now →
+        slice_index places.now i < length row.controls.now }
     requires room { at + 8 * length places.now ≤ length text.old }
     ensures within { result ≤ at + 8 * length places.now }
     ensures put { IsPutAt at
-        (flat_map change_line (changes (λ s. true) (row_of row.entry) first (control_sources places.now))) result text.old text.new }
+        (flat_map change_line
+        (changes (λ s. true) (row_of row.entry) first (control_sources places.now))) result
+        text.old text.new }
 {
     let mut end = at;
     for i in 0..places.len() {
@@ -153,14 +158,14 @@ pub fn put_control_changes(
 ) -> usize
     requires codes { AreCodes (length codes.now) codes.now }
     requires coded { length codes.now ≡ first + length places.now }
-    requires there { (i : ℕ) → i < length places.now → slice_index places.now i < length row.controls.now }
+    requires there { (i : ℕ) → i < length places.now →
+        slice_index places.now i < length row.controls.now }
     requires there_before { length before.controls.now ≡ length row.controls.now }
     requires room { at + 8 * length places.now ≤ length text.old }
     ensures within { result ≤ at + 8 * length places.now }
     ensures put { IsPutAt at
-        (flat_map change_line
-        (changes (has_changed (row_of before.entry) (row_of row.entry)) (row_of row.entry) first (control_sources places.now)))
-        result text.old text.new }
+        (flat_map change_line (changes (has_changed (row_of before.entry) (row_of row.entry))
+        (row_of row.entry) first (control_sources places.now))) result text.old text.new }
 {
     if are_same(before.controls, row.controls) {
         return at;

@@ -34,7 +34,8 @@ fn push_numbered(text: &mut Vec<u8>, word: &[u8], number: u128) -> Result<(), No
 
 /// Appends the line that begins a scope, whose name is a word with a number.
 fn push_scope(text: &mut Vec<u8>, word: &[u8], number: u128) -> Result<(), NoMemory>
-    ensures { OnOk result (text.new.items ≡ text.old.items ++ scope_line (word.now ++ decimal number)) }
+    ensures { OnOk result
+        (text.new.items ≡ text.old.items ++ scope_line (word.now ++ decimal number)) }
 {
     extend(text, b"$scope module ")?;
     push_numbered(text, word, number)?;
@@ -43,7 +44,8 @@ fn push_scope(text: &mut Vec<u8>, word: &[u8], number: u128) -> Result<(), NoMem
 
 /// Appends the front of the line of a variable, up to its name.
 fn push_code(text: &mut Vec<u8>, number: u128) -> Result<(), NoMemory>
-    ensures { OnOk result (text.new.items ≡ text.old.items ++ (codes "$var wire 1 s" ++ (decimal number ++ codes " "))) }
+    ensures { OnOk result (text.new.items
+        ≡ text.old.items ++ (codes "$var wire 1 s" ++ (decimal number ++ codes " "))) }
 {
     push_numbered(text, b"$var wire 1 s", number)?;
     extend(text, b" ")
@@ -51,7 +53,8 @@ fn push_code(text: &mut Vec<u8>, number: u128) -> Result<(), NoMemory>
 
 /// Appends the line of the variable of a number, whose name is a word with a number.
 fn push_variable(text: &mut Vec<u8>, number: u128, word: &[u8], last: u128) -> Result<(), NoMemory>
-    ensures { OnOk result (text.new.items ≡ text.old.items ++ variable_line number (word.now ++ decimal last)) }
+    ensures { OnOk result
+        (text.new.items ≡ text.old.items ++ variable_line number (word.now ++ decimal last)) }
 {
     push_code(text, number)?;
     push_numbered(text, word, last)?;
@@ -60,7 +63,8 @@ fn push_variable(text: &mut Vec<u8>, number: u128, word: &[u8], last: u128) -> R
 
 /// Appends the line of the variable that says whether a test is active.
 fn push_run_line(text: &mut Vec<u8>, number: u128, module: u64, test: u64) -> Result<(), NoMemory>
-    ensures { OnOk result (text.new.items ≡ text.old.items ++ variable_line number (run_name «module» test)) }
+    ensures { OnOk result
+        (text.new.items ≡ text.old.items ++ variable_line number (run_name «module» test)) }
 {
     push_code(text, number)?;
     push_numbered(text, b"run_", u128::from(module))?;
@@ -72,7 +76,8 @@ fn push_run_line(text: &mut Vec<u8>, number: u128, module: u64, test: u64) -> Re
 
 /// Appends the lines of the variables of a wire.
 fn push_wire(text: &mut Vec<u8>, wire: u64) -> Result<(), NoMemory>
-    ensures { OnOk result (text.new.items ≡ text.old.items ++ variable_lines (2 * wire) (wire_variables wire)) }
+    ensures { OnOk result
+        (text.new.items ≡ text.old.items ++ variable_lines (2 * wire) (wire_variables wire)) }
 {
     let wire = u128::from(wire);
     push_variable(text, 2 * wire, b"wi_", wire)?;
@@ -82,7 +87,8 @@ fn push_wire(text: &mut Vec<u8>, wire: u64) -> Result<(), NoMemory>
 /// Appends the scope of a bus at a place, with the wires from `first` on.
 fn push_bus(text: &mut Vec<u8>, place: usize, first: u64, width: u64) -> Result<(), NoMemory>
     requires { first + width < 2 ^ 64 }
-    ensures { OnOk result (text.new.items ≡ text.old.items ++ scope_lines (2 * first) (bus_scope place first width ∷ [])) }
+    ensures { OnOk result (text.new.items
+        ≡ text.old.items ++ scope_lines (2 * first) (bus_scope place first width ∷ [])) }
 {
     push_scope(text, b"bus_", place as u128)?;
     for wire in first..first + width {
@@ -94,7 +100,8 @@ fn push_bus(text: &mut Vec<u8>, place: usize, first: u64, width: u64) -> Result<
 /// Appends the scopes of all buses.
 pub fn push_buses(text: &mut Vec<u8>, buses: &[Bus]) -> Result<(), NoMemory>
     requires { sum (map (λ (b : Bus). b.width) buses.now) < 2 ^ 64 }
-    ensures { OnOk result (text.new.items ≡ text.old.items ++ scope_lines 0 (bus_scopes 0 0 (map bus_value buses.now))) }
+    ensures { OnOk result (text.new.items
+        ≡ text.old.items ++ scope_lines 0 (bus_scopes 0 0 (map bus_value buses.now))) }
 {
     let mut first = 0;
     for place in 0..buses.len() {
@@ -156,7 +163,8 @@ impl Listing {
     /// Adds such a variable for each live test of these.
     fn push_runs(&mut self, module: u64, tests: &[Test], run: usize) -> Result<usize, NoMemory>
         requires { run + length (filter is_live tests.now) < 2 ^ 64 }
-        ensures listed { OnOk result (IsListed self.old self.new (run_variables «module» run (filter is_live tests.now))) }
+        ensures listed { OnOk result
+            (IsListed self.old self.new (run_variables «module» run (filter is_live tests.now))) }
         ensures next { IfOk result (λ next. next ≡ run + length (filter is_live tests.now)) }
     {
         let mut place = run;
@@ -181,7 +189,8 @@ impl Listing {
 
     /// Adds the variables of the Shifts and the Captures of a module.
     fn push_wired(&mut self, module: u64, shift: usize, capture: usize) -> Result<(), NoMemory>
-        ensures { OnOk result (IsListed self.old self.new (wired_variables «module» shift capture true)) }
+        ensures { OnOk result
+            (IsListed self.old self.new (wired_variables «module» shift capture true)) }
     {
         self.push_control(b"shift_", module, shift)?;
         self.push_control(b"capture_", module, capture)
@@ -190,9 +199,11 @@ impl Listing {
     /// Adds these where a module has any.
     fn push_any_wired(&mut self, module: &Module, at: Places) -> Result<usize, NoMemory>
         requires { at.shift + at.wired < 2 ^ 63 }
-        ensures listed { OnOk result (IsListed self.old self.new
-            (wired_variables «module».now.number at.shift (at.shift + at.wired) (has_tam (module_value «module».now)))) }
-        ensures next { IfOk result (λ next. next ≡ at.shift + one_if (has_tam (module_value «module».now))) }
+        ensures listed { OnOk result
+            (IsListed self.old self.new (wired_variables «module».now.number at.shift
+            (at.shift + at.wired) (has_tam (module_value «module».now)))) }
+        ensures next { IfOk result
+            (λ next. next ≡ at.shift + one_if (has_tam (module_value «module».now))) }
     {
         if !has_tam_test(module) {
             return Ok(at.shift);
@@ -207,8 +218,10 @@ impl Listing {
         requires shifts { at.shift + at.wired < 2 ^ 63 }
         ensures listed { OnOk result (AreListed self.old self.new
             (scope_of_module (at.run) (at.shift) (at.wired) (module_value «module».now))) }
-        ensures run { IfOk result (λ next. next.run ≡ at.run + length (live_of_module (module_value «module».now))) }
-        ensures shift { IfOk result (λ next. next.shift ≡ at.shift + one_if (has_tam (module_value «module».now))) }
+        ensures run { IfOk result
+            (λ next. next.run ≡ at.run + length (live_of_module (module_value «module».now))) }
+        ensures shift { IfOk result
+            (λ next. next.shift ≡ at.shift + one_if (has_tam (module_value «module».now))) }
         ensures wired { IfOk result (λ next. next.wired ≡ at.wired) }
     {
         if !has_live_test(module) {
@@ -230,7 +243,8 @@ impl Listing {
         requires runs { runs ≡ length (live_ids (soc_value soc.now)) }
         requires wired { wired ≡ length (tam_numbers (soc_value soc.now)) }
         requires few { runs + (wired + wired) < 2 ^ 63 }
-        ensures { OnOk result (AreListed self.old self.new (module_scopes wired 0 runs (soc_value soc.now).modules)) }
+        ensures { OnOk result
+            (AreListed self.old self.new (module_scopes wired 0 runs (soc_value soc.now).modules)) }
     {
         let mut at = Places {
             run: 0,
@@ -256,7 +270,8 @@ pub struct Counts {
 /// These of a chip. Its controls are one for each live test and two for each of these modules.
 pub fn counts_of(alloc: Global, soc: &Soc) -> Result<Counts, NoMemory>
     ensures runs { IfOk result (λ counts. counts.runs ≡ length (live_ids (soc_value soc.now))) }
-    ensures wired { IfOk result (λ counts. counts.wired ≡ length (tam_numbers (soc_value soc.now))) }
+    ensures wired { IfOk result
+        (λ counts. counts.wired ≡ length (tam_numbers (soc_value soc.now))) }
 {
     let modules = tam_modules(alloc, soc)?;
     let controls = controls_of(alloc, soc)?;
@@ -280,7 +295,8 @@ pub fn definitions_of(
     requires few { counts.runs + (counts.wired + counts.wired) < 2 ^ 63 }
     requires wires { wires ≡ sum (widths (plan_value plan.now)) }
     requires narrow { wires ≤ 256 }
-    ensures text { IfOk result (λ listing. listing.text.items ≡ dump_head (soc_value soc.now) (plan_value plan.now)) }
+    ensures text { IfOk result
+        (λ listing. listing.text.items ≡ dump_head (soc_value soc.now) (plan_value plan.now)) }
     ensures sources { IfOk result (λ listing. form_sources wires listing.places.items
         ≡ sources_of (scopes_of (soc_value soc.now) (plan_value plan.now))) }
     ensures controls { IfOk result (λ listing. control_sources listing.places.items

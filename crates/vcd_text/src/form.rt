@@ -66,12 +66,17 @@ impl VcdForm {
     pub fn new(alloc: Global, soc: &Soc, plan: &Plan) -> Result<VcdForm, NoMemory>
         requires sound { IsSoundChip (soc_value soc.now) }
         requires narrow { sum (widths (plan_value plan.now)) ≤ 256 }
-        ensures wires { IfOk result (λ form. ⟦<VcdForm as CycleForm>⟧.wires_of form ≡ sum (widths (plan_value plan.now))) }
-        ensures controls { IfOk result (λ form. ⟦<VcdForm as CycleForm>⟧.controls_of form ≡ length (controls (soc_value soc.now))) }
+        ensures wires { IfOk result
+            (λ form. ⟦<VcdForm as CycleForm>⟧.wires_of form ≡ sum (widths (plan_value plan.now))) }
+        ensures controls { IfOk result (λ form. ⟦<VcdForm as CycleForm>⟧.controls_of form
+            ≡ length (controls (soc_value soc.now))) }
         ensures room { IfOk result (λ form. ⟦<VcdForm as CycleForm>⟧.room_of form ≤ 2 ^ 40) }
-        ensures head { IfOk result (λ form. ⟦<VcdForm as CycleForm>⟧.head_of form ≡ dump_head (soc_value soc.now) (plan_value plan.now)) }
-        ensures part { IfOk result (λ form. ⟦<VcdForm as CycleForm>⟧.part_of form ≡ dump_part (soc_value soc.now) (plan_value plan.now)) }
-        ensures tail { IfOk result (λ form. ⟦<VcdForm as CycleForm>⟧.tail_of form ≡ dump_tail (plan_value plan.now)) }
+        ensures head { IfOk result (λ form. ⟦<VcdForm as CycleForm>⟧.head_of form
+            ≡ dump_head (soc_value soc.now) (plan_value plan.now)) }
+        ensures part { IfOk result (λ form. ⟦<VcdForm as CycleForm>⟧.part_of form
+            ≡ dump_part (soc_value soc.now) (plan_value plan.now)) }
+        ensures tail { IfOk result
+            (λ form. ⟦<VcdForm as CycleForm>⟧.tail_of form ≡ dump_tail (plan_value plan.now)) }
     {
         let counts = counts_of(alloc, soc)?;
         let wires = all_wires(plan) as usize;
@@ -99,8 +104,9 @@ impl VcdForm {
         requires row { HasSizes self.now.wires self.now.controls (row_of row) }
         requires room { at + (16 + 8 * vec_len self.now.codes) ≤ length text.old }
         ensures within { result ≤ at + (16 + 8 * vec_len self.now.codes) }
-        ensures put { IsPutAt at (part_text (form_sources self.now.wires self.now.places.items) cycle None (row_of row.entry))
-            result text.old text.new }
+        ensures put { IsPutAt at
+            (part_text (form_sources self.now.wires self.now.places.items) cycle None
+            (row_of row.entry)) result text.old text.new }
     {
         let time_end = put_time(text, at, cycle);
         let wires_end = put_wire_values(&self.codes, self.wires, row, text, time_end);
@@ -129,8 +135,8 @@ impl VcdForm {
         requires room { at + (16 + 8 * vec_len self.now.codes) ≤ length text.old }
         ensures within { result ≤ at + (16 + 8 * vec_len self.now.codes) }
         ensures put { IsPutAt at
-            (part_text (form_sources self.now.wires self.now.places.items) cycle (Some (row_of before.entry)) (row_of row.entry))
-            result text.old text.new }
+            (part_text (form_sources self.now.wires self.now.places.items) cycle
+            (Some (row_of before.entry)) (row_of row.entry)) result text.old text.new }
     {
         let time_end = put_time(text, at, cycle);
         let wires_end = put_wire_changes(&self.codes, self.wires, before, row, text, time_end);

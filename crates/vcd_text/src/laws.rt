@@ -14,10 +14,12 @@ ghost use Rattle.vcd_text.specs.Variables.{Source, scopes_of};
 pub fn values_are_of_rows()
     ensures { (rows : ℕ → CycleRow) (sources : List Source) (cycle number : ℕ) (source : Source) →
         slice_get sources number ≡ Some source →
-        last_written number (changes_before rows sources (cycle + 1)) ≡ Some (value_of (rows cycle) source) }
+        last_written number (changes_before rows sources (cycle + 1))
+        ≡ Some (value_of (rows cycle) source) }
 {}
 
 /// Each variable of a control has the name of the control that it shows.
 pub fn controls_have_their_names()
-    ensures { (soc : SocValue) (plan : PlanValue) → ScopesNamed (controls soc) (scopes_of soc plan) }
+    ensures { (soc : SocValue) (plan : PlanValue) →
+        ScopesNamed (controls soc) (scopes_of soc plan) }
 {}

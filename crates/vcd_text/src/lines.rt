@@ -57,7 +57,8 @@ pub fn put_value(text: &mut [u8], at: usize, value: u8, code: &Code) -> usize
     requires { at + 8 ≤ length text.old }
     ensures within { result ≤ at + 8 }
     ensures put { (number : ℕ) → IsCode number code.now →
-        IsPutAt at (change_line (record { number = number; value = value })) result text.old text.new }
+        IsPutAt at (change_line (record { number = number; value = value })) result text.old
+        text.new }
 {
     text[at..at + LINE_MOST].copy_from_slice(&code.bytes);
     text[at] = value;
@@ -69,8 +70,9 @@ pub fn put_change(text: &mut [u8], at: usize, before: u8, value: u8, code: &Code
     requires { at + 8 ≤ length text.old }
     ensures within { result ≤ at + 8 }
     ensures put { (number : ℕ) → IsCode number code.now →
-        IsPutAt at (if not (nat_eq before value) then change_line (record { number = number; value = value }) else [])
-        result text.old text.new }
+        IsPutAt at
+        (if not (nat_eq before value) then change_line
+        (record { number = number; value = value }) else []) result text.old text.new }
 {
     if before == value {
         return at;

@@ -10,7 +10,8 @@ use outside::{NoMemory, extend, push_number};
 
 /// Appends the signals of the wires, where there are any.
 fn push_wire_signals(text: &mut Vec<u8>, wires: usize) -> Result<(), NoMemory>
-    ensures { OnOk result (text.new.items ≡ text.old.items ++ where_some wires (wire_signals wires)) }
+    ensures { OnOk result
+        (text.new.items ≡ text.old.items ++ where_some wires (wire_signals wires)) }
 {
     if wires == 0 {
         return Ok(());
@@ -21,7 +22,8 @@ fn push_wire_signals(text: &mut Vec<u8>, wires: usize) -> Result<(), NoMemory>
 
 /// Appends the signals of the controls, where there are any.
 fn push_control_signals(text: &mut Vec<u8>, controls: usize) -> Result<(), NoMemory>
-    ensures { OnOk result (text.new.items ≡ text.old.items ++ where_some controls (control_signals controls)) }
+    ensures { OnOk result
+        (text.new.items ≡ text.old.items ++ where_some controls (control_signals controls)) }
 {
     if controls == 0 {
         return Ok(());

@@ -149,7 +149,9 @@ impl VerilogForm {
     fn put_numbers(&self, row: Row<'_>, text: &mut [u8], at: usize) -> usize
         requires row { HasSizes self.now.wires self.now.controls (row_of row) }
         requires room { at + (3 * self.now.wires + self.now.controls + 30) ≤ length text.old }
-        ensures { IsPutAt at (numbers row.entry.driven.now row.entry.compared.now row.entry.controls.now) result text.old text.new }
+        ensures { IsPutAt at
+            (numbers row.entry.driven.now row.entry.compared.now row.entry.controls.now) result
+            text.old text.new }
     {
         if row.driven.is_empty() {
             return self.put_only(row.controls, text, at);

@@ -50,7 +50,8 @@ pub fn push_declared(
     count: usize,
     behind: &[u8],
 ) -> Result<(), NoMemory>
-    ensures { OnOk result (text.new.items ≡ text.old.items ++ declared before.now count behind.now) }
+    ensures { OnOk result
+        (text.new.items ≡ text.old.items ++ declared before.now count behind.now) }
 {
     extend(text, before)?;
     push_range(text, count)?;

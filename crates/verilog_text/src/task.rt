@@ -8,7 +8,8 @@ use outside::{NoMemory, extend, push};
 
 /// Appends the inputs for the wires, where there are any.
 fn push_wire_inputs(text: &mut Vec<u8>, wires: usize) -> Result<(), NoMemory>
-    ensures { OnOk result (text.new.items ≡ text.old.items ++ where_some wires (wire_inputs wires)) }
+    ensures { OnOk result
+        (text.new.items ≡ text.old.items ++ where_some wires (wire_inputs wires)) }
 {
     if wires == 0 {
         return Ok(());
@@ -20,7 +21,8 @@ fn push_wire_inputs(text: &mut Vec<u8>, wires: usize) -> Result<(), NoMemory>
 
 /// Appends the input for the controls, where there are any.
 fn push_control_inputs(text: &mut Vec<u8>, controls: usize) -> Result<(), NoMemory>
-    ensures { OnOk result (text.new.items ≡ text.old.items ++ where_some controls (control_inputs controls)) }
+    ensures { OnOk result
+        (text.new.items ≡ text.old.items ++ where_some controls (control_inputs controls)) }
 {
     if controls == 0 {
         return Ok(());

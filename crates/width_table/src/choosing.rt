@@ -41,8 +41,9 @@ impl Choices {
         requires some { 1 ≤ width }
         requires within { (m : ModuleValue) × (scan : Bool) × (wires : ℕ)
             × AreChoices m scan wires self.now.taken.items self.now.places.items × (width ≤ wires) }
-        ensures { (m : ModuleValue) (scan : Bool) (wires : ℕ) → AreChoices m scan wires self.now.taken.items self.now.places.items →
-            width ≤ wires → IsChoice m scan width result }
+        ensures { (m : ModuleValue) (scan : Bool) (wires : ℕ) →
+            AreChoices m scan wires self.now.taken.items self.now.places.items → width ≤ wires →
+            IsChoice m scan width result }
     {
         let place = self.places[(width - 1) as usize];
         self.taken[place as usize]
@@ -58,9 +59,11 @@ struct TestTotals {
 
 /// The totals of a mode of a module.
 fn totals(module: &Module, scan: bool) -> TestTotals
-    requires { sum_by (test_work (module_value «module».now)) (filter is_live «module».now.tests.items) ≤ 10 ^ 18 }
+    requires { sum_by (test_work (module_value «module».now))
+        (filter is_live «module».now.tests.items) ≤ 10 ^ 18 }
     ensures tests { result.tests ≡ length (mode_tests (module_value «module».now) scan) }
-    ensures patterns { result.patterns ≡ sum_by (λ (t : Test). t.patterns) (mode_tests (module_value «module».now) scan) }
+    ensures patterns { result.patterns
+        ≡ sum_by (λ (t : Test). t.patterns) (mode_tests (module_value «module».now) scan) }
 {
     let mut tests: u64 = 0;
     let mut patterns: u64 = 0;
@@ -78,7 +81,8 @@ fn totals(module: &Module, scan: bool) -> TestTotals
 fn cycles_of(setup: u64, totals: TestTotals, si: u64, so: u64) -> u64
     requires some { 1 ≤ totals.tests }
     requires patterns { 1 ≤ totals.patterns }
-    requires fits { totals.tests * (setup + min si so) + (1 + max si so) * totals.patterns ≤ 10 ^ 18 }
+    requires fits { totals.tests * (setup + min si so) + (1 + max si so) * totals.patterns
+        ≤ 10 ^ 18 }
     ensures { result ≡ totals.tests * (setup + min si so) + (1 + max si so) * totals.patterns }
 {
     totals.tests * (setup + si.min(so)) + (1 + si.max(so)) * totals.patterns
@@ -86,7 +90,8 @@ fn cycles_of(setup: u64, totals: TestTotals, si: u64, so: u64) -> u64
 
 /// The choices of a mode without tests.
 fn idle_choices(alloc: Global, wires: u64) -> Result<Choices, AllocError>
-    ensures taken { IfOk result (λ c. c.taken.items ≡ replicate 1 (record { width = 1; si = 0; so = 0; cycles = 0 })) }
+    ensures taken { IfOk result
+        (λ c. c.taken.items ≡ replicate 1 (record { width = 1; si = 0; so = 0; cycles = 0 })) }
     ensures places { IfOk result (λ c. c.places.items ≡ replicate wires 0) }
 {
     let idle = Choice {
@@ -129,9 +134,11 @@ pub fn choices_of(
     wires: u64,
 ) -> Result<Choices, AllocError>
     requires small { module_size (module_value «module».now) ≤ 10 ^ 18 }
-    requires work { sum_by (test_work (module_value «module».now)) (filter is_live «module».now.tests.items) ≤ 10 ^ 18 }
+    requires work { sum_by (test_work (module_value «module».now))
+        (filter is_live «module».now.tests.items) ≤ 10 ^ 18 }
     requires few { wires ≤ 256 }
-    ensures { IfOk result (λ c. AreChoices (module_value «module».now) scan wires c.taken.items c.places.items) }
+    ensures { IfOk result
+        (λ c. AreChoices (module_value «module».now) scan wires c.taken.items c.places.items) }
 {
     let totals = totals(module, scan);
     if totals.tests == 0 {

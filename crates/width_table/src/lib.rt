@@ -86,8 +86,8 @@ impl<'a> WidthTable<'a> {
         requires within { width ≤ self.now.wires }
         ensures time { result ≡ time_of self.now place width }
         ensures falls { (v : ℕ) → 1 ≤ v → v ≤ width → result ≤ time_of self.now place v }
-        ensures attained { IfSome (slice_get self.now.soc.modules place)
-            (λ m. (v u : ℕ) → IsChosen (mode_time m true) width v → IsChosen (mode_time m false) width u →
+        ensures attained { IfSome (slice_get self.now.soc.modules place) (λ m. (v u : ℕ) →
+            IsChosen (mode_time m true) width v → IsChosen (mode_time m false) width u →
             result ≡ mode_time m true v + mode_time m false u) }
     {
         let times = &self.rows[place].times;
@@ -108,7 +108,8 @@ impl<'a> WidthTable<'a> {
         requires place { place < places_of self.now }
         requires some { 1 ≤ width }
         requires within { width ≤ self.now.wires }
-        ensures chosen { IfSome (slice_get self.now.soc.modules place) (λ m. IsChosen (mode_time m scan) width result) }
+        ensures chosen { IfSome (slice_get self.now.soc.modules place)
+            (λ m. IsChosen (mode_time m scan) width result) }
     {
         self.choice(place, scan, width).width
     }
@@ -118,7 +119,8 @@ impl<'a> WidthTable<'a> {
         requires place { place < places_of self.now }
         requires some { 1 ≤ width }
         requires within { width ≤ self.now.wires }
-        ensures { IfSome (slice_get self.now.soc.modules place) (λ m. IsChoice m scan width result) }
+        ensures { IfSome (slice_get self.now.soc.modules place)
+            (λ m. IsChoice m scan width result) }
     {
         self.rows[place].choices(scan).at(width)
     }
@@ -127,13 +129,14 @@ impl<'a> WidthTable<'a> {
     /// included: in the wrapper that the table gives for the test's mode there. No wrapper is made, and no memory taken.
     pub fn cycles(&self, place: usize, test: &Test, width: u64) -> u64
         requires place { place < places_of self.now }
-        requires there { IfSome (slice_get self.now.soc.modules place) (λ m. (k : ℕ) × (slice_get m.tests k ≡ Some test.now)) }
+        requires there { IfSome (slice_get self.now.soc.modules place)
+            (λ m. (k : ℕ) × (slice_get m.tests k ≡ Some test.now)) }
         requires live { is_live test.now ≡ true }
         requires tam { IsTrue test.now.tam }
         requires some { 1 ≤ width }
         requires within { width ≤ self.now.wires }
-        ensures cycles { IfSome (slice_get self.now.soc.modules place)
-            (λ m. (v : ℕ) → IsChosen (mode_time m test.now.scan) width v → result ≡ test_time m test.now v) }
+        ensures cycles { IfSome (slice_get self.now.soc.modules place) (λ m. (v : ℕ) →
+            IsChosen (mode_time m test.now.scan) width v → result ≡ test_time m test.now v) }
         ensures small { result ≤ 10 ^ 18 }
     {
         let choice = self.choice(place, test.scan, width);
@@ -155,8 +158,11 @@ impl<'a> WidthTable<'a> {
         requires within { width ≤ self.now.wires }
         ensures designed { IfOk result (λ w. IfSome (slice_get self.now.soc.modules place)
             (λ m. (v : ℕ) → IsChosen (mode_time m scan) width v →
-            wrapper_value w ≡ record { «module» = m.number; scan = scan; chains = design (mode_of m scan) v })) }
-        ensures proper { IfOk result (λ w. IfSome (slice_get self.now.soc.modules place) (λ m. IsProper m scan (wrapper_value w).chains)) }
+            wrapper_value w
+            ≡ record
+            { «module» = m.number; scan = scan; chains = design (mode_of m scan) v })) }
+        ensures proper { IfOk result (λ w. IfSome (slice_get self.now.soc.modules place)
+            (λ m. IsProper m scan (wrapper_value w).chains)) }
         ensures balanced { IfOk result (λ w. IfSome (slice_get self.now.soc.modules place)
             (λ m. IsBalanced (mode_of m scan) (wrapper_value w).chains)) }
         ensures some_chain { IfOk result (λ w. 1 ≤ length (wrapper_value w).chains) }

@@ -40,10 +40,13 @@ fn cycles_together(
     wires: u64,
 ) -> Result<Vec<u64>, AllocError>
     requires few { wires ≤ 256 }
-    requires choices { (m : ModuleValue) × AreChoices m true wires scan.now.taken.items scan.now.places.items
+    requires choices { (m : ModuleValue)
+        × AreChoices m true wires scan.now.taken.items scan.now.places.items
         × AreChoices m false wires terminals.now.taken.items terminals.now.places.items }
-    ensures { (m : ModuleValue) → AreChoices m true wires scan.now.taken.items scan.now.places.items →
-        AreChoices m false wires terminals.now.taken.items terminals.now.places.items → IfOk result (λ v. AreTimes m wires v.items) }
+    ensures { (m : ModuleValue) →
+        AreChoices m true wires scan.now.taken.items scan.now.places.items →
+        AreChoices m false wires terminals.now.taken.items terminals.now.places.items →
+        IfOk result (λ v. AreTimes m wires v.items) }
 {
     let mut times = Vec::with_capacity(alloc, wires as usize)?;
     for width in 1..wires + 1 {
@@ -56,12 +59,14 @@ fn cycles_together(
 /// The row of a module.
 fn row_of(alloc: Global, module: &Module, wires: u64) -> Result<ModuleRow, AllocError>
     requires small { module_size (module_value «module».now) ≤ 10 ^ 18 }
-    requires work { sum_by (test_work (module_value «module».now)) (filter is_live «module».now.tests.items) ≤ 10 ^ 18 }
+    requires work { sum_by (test_work (module_value «module».now))
+        (filter is_live «module».now.tests.items) ≤ 10 ^ 18 }
     requires few { wires ≤ 256 }
     ensures times { IfOk result (λ r. AreTimes (module_value «module».now) wires r.times.items) }
-    ensures scan { IfOk result (λ r. AreChoices (module_value «module».now) true wires r.scan.taken.items r.scan.places.items) }
-    ensures terminals { IfOk result (λ r. AreChoices (module_value «module».now) false wires r.terminals.taken.items
-        r.terminals.places.items) }
+    ensures scan { IfOk result (λ r. AreChoices (module_value «module».now) true wires
+        r.scan.taken.items r.scan.places.items) }
+    ensures terminals { IfOk result (λ r. AreChoices (module_value «module».now) false wires
+        r.terminals.taken.items r.terminals.places.items) }
 {
     let scan = choices_of(alloc, module, true, wires)?;
     let terminals = choices_of(alloc, module, false, wires)?;

@@ -47,7 +47,8 @@ pub fn put_interval(widths: &mut Widths, place: usize, interval: Interval, area:
     requires areas { length widths.old.areas.items ≡ length widths.old.intervals.items }
     requires total { widths.old.total ≡ sum widths.old.areas.items }
     requires fits { widths.old.total + area < 2 ^ 128 }
-    ensures intervals { widths.new.intervals.items ≡ slice_set widths.old.intervals.items place interval }
+    ensures intervals { widths.new.intervals.items
+        ≡ slice_set widths.old.intervals.items place interval }
     ensures areas { widths.new.areas.items ≡ slice_set widths.old.areas.items place area }
     ensures total { widths.new.total ≡ sum widths.new.areas.items }
 {

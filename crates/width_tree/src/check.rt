@@ -47,8 +47,10 @@ impl Model for TreeRoom {
 
     ghost view = { λ r. record { modules = length r.own.items; nodes = length r.turns.items } };
 
-    ghost invariant = { λ r. (length r.times.items ≡ length r.own.items * 256) × (length r.widths.intervals.items ≡ length r.own.items)
-        × (length r.widths.areas.items ≡ length r.own.items) × (length r.marks.items ≡ length r.own.items) };
+    ghost invariant = { λ r. (length r.times.items ≡ length r.own.items * 256)
+        × (length r.widths.intervals.items ≡ length r.own.items)
+        × (length r.widths.areas.items ≡ length r.own.items)
+        × (length r.marks.items ≡ length r.own.items) };
 }
 
 const NO_INTERVAL: Interval = Interval { low: 0, high: 0 };
@@ -94,9 +96,11 @@ impl TreeRoom {
 /// Writes the least area of each module within its interval.
 fn fill_areas(table: &ChipTimes<'_>, intervals: &[Interval], areas: &mut [u128])
     requires table { IsTable table.now }
-    requires intervals { AreIntervals table.now.wires (length (chip_of table.now).modules) intervals.now }
+    requires intervals { AreIntervals table.now.wires (length (chip_of table.now).modules)
+        intervals.now }
     requires room { length areas.old ≡ length (chip_of table.now).modules }
-    ensures { AreAreas (length (chip_of table.now).modules) table.now.times.now intervals.now areas.new }
+    ensures { AreAreas (length (chip_of table.now).modules) table.now.times.now intervals.now
+        areas.new }
 {
     for place in 0..areas.len() {
         areas[place] = least_area(table.times, place, intervals[place]);
@@ -117,7 +121,8 @@ fn fill_slices(table: &ChipTimes<'_>, intervals: &mut [Interval], areas: &mut [u
     requires intervals { length intervals.old ≡ length (chip_of table.now).modules }
     requires areas { length areas.old ≡ length (chip_of table.now).modules }
     ensures root { intervals.new ≡ root_case (chip_of table.now) table.now.wires }
-    ensures areas { AreAreas (length (chip_of table.now).modules) table.now.times.now intervals.new areas.new }
+    ensures areas { AreAreas (length (chip_of table.now).modules) table.now.times.now intervals.new
+        areas.new }
     ensures total { result ≡ sum areas.new }
 {
     fill_root(intervals, table.wires);
@@ -130,7 +135,8 @@ fn fill_widths(table: &ChipTimes<'_>, widths: &mut Widths)
     requires table { IsTable table.now }
     requires intervals { length widths.old.intervals.items ≡ length (chip_of table.now).modules }
     requires areas { length widths.old.areas.items ≡ length (chip_of table.now).modules }
-    ensures widths { AreWidths table.now.wires (length (chip_of table.now).modules) table.now.times.now widths.new }
+    ensures widths { AreWidths table.now.wires (length (chip_of table.now).modules)
+        table.now.times.now widths.new }
     ensures root { widths.new.intervals.items ≡ root_case (chip_of table.now) table.now.wires }
 {
     widths.total = fill_slices(table, &mut widths.intervals, &mut widths.areas);
@@ -159,13 +165,15 @@ fn check_in(
     requires tree { IsOneTree (map node_value tree.now.nodes.items) }
     requires times { length times.old ≡ length (soc_value chip.now.soc.now).modules * 256 }
     requires own { length own.old ≡ length (soc_value chip.now.soc.now).modules }
-    requires intervals { length widths.old.intervals.items ≡ length (soc_value chip.now.soc.now).modules }
+    requires intervals { length widths.old.intervals.items
+        ≡ length (soc_value chip.now.soc.now).modules }
     requires areas { length widths.old.areas.items ≡ length (soc_value chip.now.soc.now).modules }
     requires marks { length marks.old ≡ length (soc_value chip.now.soc.now).modules }
     requires turns { length tree.now.nodes.items ≤ length turns.old }
     ensures checked { (t : WidthTree) → nodes_of t ≡ map node_value tree.now.nodes.items →
         IsChecked (soc_value chip.now.soc.now) chip.now.wires tree.now.claimed
-        (cases_of (soc_value chip.now.soc.now) (root_case (soc_value chip.now.soc.now) chip.now.wires) t) result }
+        (cases_of (soc_value chip.now.soc.now)
+        (root_case (soc_value chip.now.soc.now) chip.now.wires) t) result }
     ensures intervals { length widths.new.intervals.items ≡ length widths.old.intervals.items }
     ensures areas { length widths.new.areas.items ≡ length widths.old.areas.items }
 {
@@ -197,10 +205,14 @@ pub fn check_tree(
     requires limits { IsSoundLimits (soc_value soc.now) (limits_value limits.now) }
     requires tree { IsOneTree (tree_value tree.now).nodes }
     requires room { HasRoom (soc_value soc.now) (tree_value tree.now) room.old }
-    ensures accepted { OnOk result (IsAcceptedTree (soc_value soc.now) (limits_value limits.now) (tree_value tree.now)) }
-    ensures fault { IfErr result (IsTreeFault (soc_value soc.now) (limits_value limits.now) (tree_value tree.now)) }
-    ensures exact { IsAcceptedTree (soc_value soc.now) (limits_value limits.now) (tree_value tree.now) → result ≡ Ok tt }
-    ensures bound { OnOk result (IsBound (soc_value soc.now) (limits_value limits.now) tree.now.claimed) }
+    ensures accepted { OnOk result
+        (IsAcceptedTree (soc_value soc.now) (limits_value limits.now) (tree_value tree.now)) }
+    ensures fault { IfErr result
+        (IsTreeFault (soc_value soc.now) (limits_value limits.now) (tree_value tree.now)) }
+    ensures exact { IsAcceptedTree (soc_value soc.now) (limits_value limits.now)
+        (tree_value tree.now) → result ≡ Ok tt }
+    ensures bound { OnOk result
+        (IsBound (soc_value soc.now) (limits_value limits.now) tree.now.claimed) }
     ensures room { room.new ≡ room.old }
 {
     accepted_trees_are_bounds();

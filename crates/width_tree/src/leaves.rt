@@ -26,8 +26,10 @@ pub enum Finding {
 /// What is found at a split of the widths of a module.
 fn find_split(table: &ChipTimes<'_>, intervals: &[Interval], module: u64, at: u64) -> Finding
     requires table { IsTable table.now }
-    requires intervals { AreIntervals table.now.wires (length (chip_of table.now).modules) intervals.now }
-    ensures { IsFinding (chip_of table.now) table.now.wires intervals.now (OfSplit «module» at) result }
+    requires intervals { AreIntervals table.now.wires (length (chip_of table.now).modules)
+        intervals.now }
+    ensures { IsFinding (chip_of table.now) table.now.wires intervals.now (OfSplit «module» at)
+        result }
 {
     match tam_place(table, module) {
         None => Finding::Broken,
@@ -47,8 +49,10 @@ fn find_split(table: &ChipTimes<'_>, intervals: &[Interval], module: u64, at: u6
 /// What is found at a leaf by the times of a module: the lower times of its live tests on its greatest width.
 fn find_time(table: &ChipTimes<'_>, intervals: &[Interval], module: u64) -> Finding
     requires table { IsTable table.now }
-    requires intervals { AreIntervals table.now.wires (length (chip_of table.now).modules) intervals.now }
-    ensures { IsFinding (chip_of table.now) table.now.wires intervals.now (OfLeaf (OfTime «module»)) result }
+    requires intervals { AreIntervals table.now.wires (length (chip_of table.now).modules)
+        intervals.now }
+    ensures { IsFinding (chip_of table.now) table.now.wires intervals.now (OfLeaf (OfTime «module»))
+        result }
 {
     match place_of(table.soc, module) {
         None => Finding::Broken,
@@ -71,8 +75,10 @@ fn divided_up(total: u128, parts: u64) -> u128
 /// What is found at a leaf by the areas of all modules: the cycles that they take on all wires.
 fn find_area(table: &ChipTimes<'_>, widths: &Widths) -> Finding
     requires table { IsTable table.now }
-    requires widths { AreWidths table.now.wires (length (chip_of table.now).modules) table.now.times.now widths.now }
-    ensures { IsFinding (chip_of table.now) table.now.wires widths.now.intervals.items (OfLeaf OfArea) result }
+    requires widths { AreWidths table.now.wires (length (chip_of table.now).modules)
+        table.now.times.now widths.now }
+    ensures { IsFinding (chip_of table.now) table.now.wires widths.now.intervals.items
+        (OfLeaf OfArea) result }
 {
     Finding::Shows(divided_up(widths.total, table.wires))
 }
@@ -87,10 +93,12 @@ fn find_bus(
     marks: &mut [usize],
 ) -> Finding
     requires table { IsTable table.now }
-    requires intervals { AreIntervals table.now.wires (length (chip_of table.now).modules) intervals.now }
+    requires intervals { AreIntervals table.now.wires (length (chip_of table.now).modules)
+        intervals.now }
     requires room { length marks.old ≡ length (chip_of table.now).modules }
     requires older { AreOlder stamp marks.old }
-    ensures finding { IsFinding (chip_of table.now) table.now.wires intervals.now (OfLeaf (OfBus modules.now)) result }
+    ensures finding { IsFinding (chip_of table.now) table.now.wires intervals.now
+        (OfLeaf (OfBus modules.now)) result }
     ensures older { AreOlder (stamp + 1) marks.new }
 {
     match least_widths(table, intervals, modules, stamp, marks) {
@@ -102,8 +110,10 @@ fn find_bus(
 /// What is found at a leaf by two modules that need one bus, of which no width is in the intervals of both.
 fn find_apart(table: &ChipTimes<'_>, intervals: &[Interval], a: u64, b: u64) -> Finding
     requires table { IsTable table.now }
-    requires intervals { AreIntervals table.now.wires (length (chip_of table.now).modules) intervals.now }
-    ensures { IsFinding (chip_of table.now) table.now.wires intervals.now (OfLeaf (OfApart a b)) result }
+    requires intervals { AreIntervals table.now.wires (length (chip_of table.now).modules)
+        intervals.now }
+    ensures { IsFinding (chip_of table.now) table.now.wires intervals.now (OfLeaf (OfApart a b))
+        result }
 {
     let Some(first) = tam_place(table, a) else {
         return Finding::Broken;
@@ -137,10 +147,12 @@ pub fn find_shown(
     marks: &mut [usize],
 ) -> Finding
     requires table { IsTable table.now }
-    requires widths { AreWidths table.now.wires (length (chip_of table.now).modules) table.now.times.now widths.now }
+    requires widths { AreWidths table.now.wires (length (chip_of table.now).modules)
+        table.now.times.now widths.now }
     requires room { length marks.old ≡ length (chip_of table.now).modules }
     requires older { AreOlder stamp marks.old }
-    ensures finding { IsFinding (chip_of table.now) table.now.wires widths.now.intervals.items (node_value node.now) result }
+    ensures finding { IsFinding (chip_of table.now) table.now.wires widths.now.intervals.items
+        (node_value node.now) result }
     ensures older { AreOlder (stamp + 1) marks.new }
 {
     match node {

@@ -25,7 +25,8 @@ pub fn tam_place(table: &ChipTimes<'_>, number: u64) -> Option<usize>
     requires { IsTable table.now }
     ensures some { IfSome result (λ place. (module_place (chip_of table.now) number ≡ Some place)
         × (place < length (chip_of table.now).modules)) }
-    ensures exact { is_some result ≡ passes (has_tam_at (chip_of table.now)) (module_place (chip_of table.now) number) }
+    ensures exact { is_some result
+        ≡ passes (has_tam_at (chip_of table.now)) (module_place (chip_of table.now) number) }
 {
     match place_of(table.soc, number) {
         None => None,
@@ -59,19 +60,23 @@ fn take_module(
     least: Least,
 ) -> Option<Least>
     requires table { IsTable table.now }
-    requires intervals { AreIntervals table.now.wires (length (chip_of table.now).modules) intervals.now }
+    requires intervals { AreIntervals table.now.wires (length (chip_of table.now).modules)
+        intervals.now }
     requires place { place < length modules.now }
     requires room { length marks.old ≡ length (chip_of table.now).modules }
     requires low { least.low ≤ table.now.wires + 1 }
-    requires so_far { IsBusSoFar (chip_of table.now) table.now.wires intervals.now (take place modules.now) marks.old stamp least }
+    requires so_far { IsBusSoFar (chip_of table.now) table.now.wires intervals.now
+        (take place modules.now) marks.old stamp least }
     ensures kept { IfSome result (λ next. (m : ℕ) → slice_get modules.now place ≡ Some m →
         IsBusItem (chip_of table.now) table.now.wires intervals.now (take place modules.now) m
-        × IsBusSoFar (chip_of table.now) table.now.wires intervals.now (take (place + 1) modules.now) marks.new stamp next) }
+        × IsBusSoFar (chip_of table.now) table.now.wires intervals.now
+        (take (place + 1) modules.now) marks.new stamp next) }
     ensures low { IfSome result (λ next. next.low ≤ table.now.wires + 1) }
     ensures some { IfSome result (λ next. 1 ≤ least.high → 1 ≤ next.high) }
     ensures few { IfSome result (λ next. next.high ≤ least.high) }
     ensures breach { IfNone result ((m : ℕ) → slice_get modules.now place ≡ Some m →
-        IsBusItem (chip_of table.now) table.now.wires intervals.now (take place modules.now) m → ⊥) }
+        IsBusItem (chip_of table.now) table.now.wires intervals.now (take place modules.now) m →
+        ⊥) }
     ensures older { AreOlder (stamp + 1) marks.old → AreOlder (stamp + 1) marks.new }
 {
     match tam_place(table, modules[place]) {
@@ -103,7 +108,8 @@ pub fn least_widths(
     marks: &mut [usize],
 ) -> Option<Least>
     requires table { IsTable table.now }
-    requires intervals { AreIntervals table.now.wires (length (chip_of table.now).modules) intervals.now }
+    requires intervals { AreIntervals table.now.wires (length (chip_of table.now).modules)
+        intervals.now }
     requires room { length marks.old ≡ length (chip_of table.now).modules }
     requires older { AreOlder stamp marks.old }
     ensures exact { MatchOption result

@@ -25,7 +25,8 @@ pub fn new_draft(alloc: Global) -> Draft
 
 /// One more node.
 fn push_node(draft: &mut Draft, node: Node) -> Result<(), Stop>
-    ensures ok { OnOk result (draft_value draft.new ≡ with_node (draft_value draft.old) (node_value node)) }
+    ensures ok { OnOk result
+        (draft_value draft.new ≡ with_node (draft_value draft.old) (node_value node)) }
     ensures err { OnErr result (result ≡ Err Stop.NoMemory) }
 {
     draft.nodes.push(node)?;
@@ -34,7 +35,8 @@ fn push_node(draft: &mut Draft, node: Node) -> Result<(), Stop>
 
 /// One more split, which wants a node for each of its branches. `NoMemory` too where their number passes its type.
 fn push_split(draft: &mut Draft, module: u64, at: u64) -> Result<(), Stop>
-    ensures ok { OnOk result (draft_value draft.new ≡ with_split (draft_value draft.old) «module» at) }
+    ensures ok { OnOk result
+        (draft_value draft.new ≡ with_split (draft_value draft.old) «module» at) }
     ensures err { OnErr result (result ≡ Err Stop.NoMemory) }
 {
     let Some(wanted) = draft.wanted.checked_add(2) else {
@@ -86,7 +88,8 @@ fn begin_part(alloc: Global, draft: &mut Draft, key: Keyword) -> Result<Part, St
 
 /// A keyword after modules on a bus.
 fn end_bus(alloc: Global, draft: &mut Draft, modules: Vec<u64>, key: Keyword) -> Result<Part, Stop>
-    ensures { Steps (steps_key (draft_value draft.old) (in_bus modules.items) key) result draft.new }
+    ensures { Steps (steps_key (draft_value draft.old) (in_bus modules.items) key) result
+        draft.new }
 {
     push_node(draft, Node::Bus { modules })?;
     begin_part(alloc, draft, key)

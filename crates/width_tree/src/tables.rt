@@ -47,7 +47,8 @@ fn fill_row(soc: &Soc, place: usize, wires: u64, times: &mut [u64])
     requires wires { wires ≤ 256 }
     requires room { length times.old ≡ length (soc_value soc.now).modules * 256 }
     ensures row { HasRow (soc_value soc.now) wires times.new place }
-    ensures earlier { (k : ℕ) → k < place * 256 → slice_index times.new k ≡ slice_index times.old k }
+    ensures earlier { (k : ℕ) → k < place * 256 →
+        slice_index times.new k ≡ slice_index times.old k }
 {
     let lower = LowerTimes::of(soc, place);
     for width in 1..wires + 1 {

@@ -62,18 +62,22 @@ fn begin_split(
     at: u64,
 ) -> usize
     requires table { IsTable table.now }
-    requires widths { AreWidths table.now.wires (length (chip_of table.now).modules) table.now.times.now widths.old }
+    requires widths { AreWidths table.now.wires (length (chip_of table.now).modules)
+        table.now.times.now widths.old }
     requires place { place < length (chip_of table.now).modules }
     requires some { (interval_at widths.old.intervals.items place).low ≤ at }
     requires below { at < (interval_at widths.old.intervals.items place).high }
     requires room { depth < length turns.old }
-    ensures widths { AreWidths table.now.wires (length (chip_of table.now).modules) table.now.times.now widths.new }
+    ensures widths { AreWidths table.now.wires (length (chip_of table.now).modules)
+        table.now.times.now widths.new }
     ensures narrow { widths.new.intervals.items ≡ narrow_at widths.old.intervals.items at place }
     ensures depth { result ≡ depth + 1 }
     ensures awaits { (wide : WidthTree) (rest : List NodeCase) →
-        Awaits (chip_of table.now) table.now.wires table.now.times.now turns.old depth widths.old.intervals.items rest →
-        Awaits (chip_of table.now) table.now.wires table.now.times.now turns.new (depth + 1) widths.new.intervals.items
-        (cases_of (chip_of table.now) (wide_at widths.old.intervals.items at place) wide ++ rest) }
+        Awaits (chip_of table.now) table.now.wires table.now.times.now turns.old depth
+        widths.old.intervals.items rest →
+        Awaits (chip_of table.now) table.now.wires table.now.times.now turns.new (depth + 1)
+        widths.new.intervals.items (cases_of (chip_of table.now)
+        (wide_at widths.old.intervals.items at place) wide ++ rest) }
 {
     let old = widths.intervals[place];
     let area = widths.areas[place];
@@ -100,12 +104,17 @@ fn begin_split(
 /// Begins the second branch of the last split that is under way, with the wide case of its module.
 fn begin_second(table: &ChipTimes<'_>, widths: &mut Widths, turns: &mut [OpenSplit], last: usize)
     requires table { IsTable table.now }
-    requires widths { AreWidths table.now.wires (length (chip_of table.now).modules) table.now.times.now widths.old }
+    requires widths { AreWidths table.now.wires (length (chip_of table.now).modules)
+        table.now.times.now widths.old }
     requires room { last < length turns.old }
-    requires turn { IsTurn table.now.wires table.now.times.now widths.old.intervals.items (turn_at turns.old last) }
-    ensures widths { AreWidths table.now.wires (length (chip_of table.now).modules) table.now.times.now widths.new }
-    ensures wide { widths.new.intervals.items ≡ case_later widths.old.intervals.items (turn_at turns.old last) }
-    ensures turns { turns.new ≡ slice_set turns.old last (record (turn_at turns.old last) { second = true }) }
+    requires turn { IsTurn table.now.wires table.now.times.now widths.old.intervals.items
+        (turn_at turns.old last) }
+    ensures widths { AreWidths table.now.wires (length (chip_of table.now).modules)
+        table.now.times.now widths.new }
+    ensures wide { widths.new.intervals.items
+        ≡ case_later widths.old.intervals.items (turn_at turns.old last) }
+    ensures turns { turns.new
+        ≡ slice_set turns.old last (record (turn_at turns.old last) { second = true }) }
 {
     let turn = turns[last];
     let wide = Interval {
@@ -130,15 +139,20 @@ fn next_branch(
     under_way: usize,
 ) -> usize
     requires table { IsTable table.now }
-    requires widths { AreWidths table.now.wires (length (chip_of table.now).modules) table.now.times.now widths.old }
+    requires widths { AreWidths table.now.wires (length (chip_of table.now).modules)
+        table.now.times.now widths.old }
     requires room { under_way ≤ length turns.old }
-    requires awaits { (rest : List NodeCase) × Awaits (chip_of table.now) table.now.wires table.now.times.now turns.old under_way
+    requires awaits { (rest : List NodeCase)
+        × Awaits (chip_of table.now) table.now.wires table.now.times.now turns.old under_way
         widths.old.intervals.items rest }
-    ensures widths { AreWidths table.now.wires (length (chip_of table.now).modules) table.now.times.now widths.new }
+    ensures widths { AreWidths table.now.wires (length (chip_of table.now).modules)
+        table.now.times.now widths.new }
     ensures few { result ≤ under_way }
-    ensures goes_on { (rest : List NodeCase) → Awaits (chip_of table.now) table.now.wires table.now.times.now turns.old under_way
+    ensures goes_on { (rest : List NodeCase) →
+        Awaits (chip_of table.now) table.now.wires table.now.times.now turns.old under_way
         widths.old.intervals.items rest →
-        GoesOn (chip_of table.now) table.now.wires table.now.times.now turns.new result widths.new.intervals.items rest }
+        GoesOn (chip_of table.now) table.now.wires table.now.times.now turns.new result
+        widths.new.intervals.items rest }
 {
     let mut depth = under_way;
     while depth > 0 {
@@ -162,16 +176,24 @@ fn go_on(
     depth: usize,
 ) -> usize
     requires table { IsTable table.now }
-    requires widths { AreWidths table.now.wires (length (chip_of table.now).modules) table.now.times.now widths.old }
+    requires widths { AreWidths table.now.wires (length (chip_of table.now).modules)
+        table.now.times.now widths.old }
     requires room { depth < length turns.old }
-    requires rule { KeepsNode (chip_of table.now) table.now.wires widths.old.intervals.items (node_value node.now) }
-    requires begins { (left : List NodeCase) × Begins (chip_of table.now) table.now.wires table.now.times.now turns.old depth
-        widths.old.intervals.items (in_case widths.old.intervals.items (node_value node.now) ∷ left) }
-    ensures widths { AreWidths table.now.wires (length (chip_of table.now).modules) table.now.times.now widths.new }
+    requires rule { KeepsNode (chip_of table.now) table.now.wires widths.old.intervals.items
+        (node_value node.now) }
+    requires begins { (left : List NodeCase)
+        × Begins (chip_of table.now) table.now.wires table.now.times.now turns.old depth
+        widths.old.intervals.items
+        (in_case widths.old.intervals.items (node_value node.now) ∷ left) }
+    ensures widths { AreWidths table.now.wires (length (chip_of table.now).modules)
+        table.now.times.now widths.new }
     ensures few { result ≤ depth + 1 }
-    ensures goes_on { (left : List NodeCase) → Begins (chip_of table.now) table.now.wires table.now.times.now turns.old depth
-        widths.old.intervals.items (in_case widths.old.intervals.items (node_value node.now) ∷ left) →
-        GoesOn (chip_of table.now) table.now.wires table.now.times.now turns.new result widths.new.intervals.items left }
+    ensures goes_on { (left : List NodeCase) →
+        Begins (chip_of table.now) table.now.wires table.now.times.now turns.old depth
+        widths.old.intervals.items
+        (in_case widths.old.intervals.items (node_value node.now) ∷ left) →
+        GoesOn (chip_of table.now) table.now.wires table.now.times.now turns.new result
+        widths.new.intervals.items left }
 {
     if let Node::Split { module, at } = node {
         return match place_of(table.soc, *module) {
@@ -201,21 +223,27 @@ fn check_node(
 ) -> Result<usize, TreeFault>
     requires table { IsTable table.now }
     requires small { by.place + 2 < 2 ^ 64 }
-    requires widths { AreWidths table.now.wires (length (chip_of table.now).modules) table.now.times.now widths.old }
+    requires widths { AreWidths table.now.wires (length (chip_of table.now).modules)
+        table.now.times.now widths.old }
     requires marks { length marks.old ≡ length (chip_of table.now).modules }
     requires older { AreOlder (by.place + 1) marks.old }
     requires room { depth < length turns.old }
-    requires begins { (left : List NodeCase) × Begins (chip_of table.now) table.now.wires table.now.times.now turns.old depth
-        widths.old.intervals.items (in_case widths.old.intervals.items (node_value node.now) ∷ left) }
+    requires begins { (left : List NodeCase)
+        × Begins (chip_of table.now) table.now.wires table.now.times.now turns.old depth
+        widths.old.intervals.items
+        (in_case widths.old.intervals.items (node_value node.now) ∷ left) }
     ensures judged { IsJudged (chip_of table.now) table.now.wires by.claimed by.place
         (in_case widths.old.intervals.items (node_value node.now)) result }
     ensures older { AreOlder (by.place + 2) marks.new }
-    ensures widths { AreWidths table.now.wires (length (chip_of table.now).modules) table.now.times.now widths.new }
+    ensures widths { AreWidths table.now.wires (length (chip_of table.now).modules)
+        table.now.times.now widths.new }
     ensures few { IfOk result (λ next. next ≤ depth + 1) }
-    ensures goes_on { (left : List NodeCase) → Begins (chip_of table.now) table.now.wires table.now.times.now turns.old depth
-        widths.old.intervals.items (in_case widths.old.intervals.items (node_value node.now) ∷ left) →
-        IfOk result (λ next. GoesOn (chip_of table.now) table.now.wires table.now.times.now turns.new next
-        widths.new.intervals.items left) }
+    ensures goes_on { (left : List NodeCase) →
+        Begins (chip_of table.now) table.now.wires table.now.times.now turns.old depth
+        widths.old.intervals.items
+        (in_case widths.old.intervals.items (node_value node.now) ∷ left) →
+        IfOk result (λ next. GoesOn (chip_of table.now) table.now.wires table.now.times.now
+        turns.new next widths.new.intervals.items left) }
 {
     let finding = find_shown(table, widths, node, by.place + 1, marks);
     match judge_node(by.claimed, by.place, finding) {
@@ -234,14 +262,17 @@ pub fn check_nodes(
     turns: &mut [OpenSplit],
 ) -> Result<(), TreeFault>
     requires table { IsTable table.now }
-    requires widths { AreWidths table.now.wires (length (chip_of table.now).modules) table.now.times.now widths.old }
+    requires widths { AreWidths table.now.wires (length (chip_of table.now).modules)
+        table.now.times.now widths.old }
     requires marks { length marks.old ≡ length (chip_of table.now).modules }
     requires older { AreOlder 1 marks.old }
     requires room { length tree.now.nodes.items ≤ length turns.old }
     requires tree { IsOneTree (map node_value tree.now.nodes.items) }
-    ensures widths { AreWidths table.now.wires (length (chip_of table.now).modules) table.now.times.now widths.new }
+    ensures widths { AreWidths table.now.wires (length (chip_of table.now).modules)
+        table.now.times.now widths.new }
     ensures checked { (t : WidthTree) → nodes_of t ≡ map node_value tree.now.nodes.items →
-        IsChecked (chip_of table.now) table.now.wires tree.now.claimed (cases_of (chip_of table.now) widths.old.intervals.items t) result }
+        IsChecked (chip_of table.now) table.now.wires tree.now.claimed
+        (cases_of (chip_of table.now) widths.old.intervals.items t) result }
 {
     let mut depth = 0;
     for place in 0..tree.nodes.len() {

@@ -36,7 +36,8 @@ fn put_scans(
     requires some { 0 < length loads.old }
     requires as_many { length loads.old ≡ length chains.old }
     requires empty { loads.old ≡ replicate (length loads.old) 0 }
-    requires no_scans { map (λ (c : ChainPlan). c.scans.items) chains.old ≡ replicate (length loads.old) [] }
+    requires no_scans { map (λ (c : ChainPlan). c.scans.items) chains.old
+        ≡ replicate (length loads.old) [] }
     requires many { 0 < heap_len heap.old }
     requires heap { IsHeap entry_cmp (heap_items heap.old) }
     requires entries { HasEntries (heap_items heap.old) loads.old }
@@ -69,8 +70,10 @@ fn fill_chains(
     requires as_many { length loads.now ≡ length chains.old }
     requires below_si { All (λ n. n ≤ si) loads.now }
     requires below_so { All (λ n. n ≤ so) loads.now }
-    ensures { (lengths : List ℕ) → loads.now ≡ map (λ (c : ChainPlan). scan_length lengths c.scans.items) chains.old →
-        map chain_value chains.new ≡ filled lengths si ins so outs (map (λ (c : ChainPlan). c.scans.items) chains.old) }
+    ensures { (lengths : List ℕ) →
+        loads.now ≡ map (λ (c : ChainPlan). scan_length lengths c.scans.items) chains.old →
+        map chain_value chains.new
+        ≡ filled lengths si ins so outs (map (λ (c : ChainPlan). c.scans.items) chains.old) }
 {
     for (place, load) in loads.iter().enumerate() {
         let chain = &mut chains[place];
@@ -83,7 +86,8 @@ fn fill_chains(
 
 /// Chains without cells.
 fn empty_chains(alloc: Global, width: u64) -> Result<Vec<ChainPlan>, AllocError>
-    ensures { IfOk result (λ v. map (λ (c : ChainPlan). c.scans.items) v.items ≡ replicate width []) }
+    ensures { IfOk result
+        (λ v. map (λ (c : ChainPlan). c.scans.items) v.items ≡ replicate width []) }
 {
     let mut chains = Vec::with_capacity(alloc, width as usize)?;
     for _place in 0..width {
@@ -109,7 +113,8 @@ fn put_cells(
     requires some { 0 < length loads.old }
     requires as_many { length loads.old ≡ length chains.old }
     requires empty { loads.old ≡ replicate (length loads.old) 0 }
-    requires no_scans { map (λ (c : ChainPlan). c.scans.items) chains.old ≡ replicate (length loads.old) [] }
+    requires no_scans { map (λ (c : ChainPlan). c.scans.items) chains.old
+        ≡ replicate (length loads.old) [] }
     requires many { 0 < heap_len heap.old }
     requires heap { IsHeap entry_cmp (heap_items heap.old) }
     requires entries { HasEntries (heap_items heap.old) loads.old }
@@ -117,8 +122,10 @@ fn put_cells(
     requires few_flops { flops < 2 ^ 62 }
     requires few_ins { ins < 2 ^ 62 }
     requires few_outs { outs < 2 ^ 62 }
-    ensures { IfOk result (λ _. (lengths : List ℕ) → IsOrder lengths order.now → flops ≡ sum lengths →
-        map chain_value chains.new ≡ design (record { lengths = lengths; ins = ins; outs = outs }) (length loads.old)) }
+    ensures { IfOk result (λ _. (lengths : List ℕ) → IsOrder lengths order.now →
+        flops ≡ sum lengths →
+        map chain_value chains.new
+        ≡ design (record { lengths = lengths; ins = ins; outs = outs }) (length loads.old)) }
 {
     let longest = put_scans(order, heap, loads, chains)?;
     let width = loads.len() as u64;
@@ -142,8 +149,10 @@ pub fn build_chains(
     requires few_flops { flops < 2 ^ 62 }
     requires few_ins { ins < 2 ^ 62 }
     requires few_outs { outs < 2 ^ 62 }
-    ensures { IfOk result (λ v. (lengths : List ℕ) → IsOrder lengths order.now → flops ≡ sum lengths →
-        map chain_value v.items ≡ design (record { lengths = lengths; ins = ins; outs = outs }) width) }
+    ensures { IfOk result
+        (λ v. (lengths : List ℕ) → IsOrder lengths order.now → flops ≡ sum lengths →
+        map chain_value v.items
+        ≡ design (record { lengths = lengths; ins = ins; outs = outs }) width) }
 {
     let mut chains = empty_chains(alloc, width)?;
     let mut loads = Vec::from_elem(alloc, 0u64, width as usize)?;

@@ -45,8 +45,10 @@ pub fn design(alloc: Global, module: &Module, scan: bool, width: u64) -> Result<
       chains = design (mode_of (module_value «module».now) scan) width;
     }) }
     ensures width { IfOk result (λ w. length (wrapper_value w).chains ≡ width) }
-    ensures proper { IfOk result (λ w. IsProper (module_value «module».now) scan (wrapper_value w).chains) }
-    ensures balanced { IfOk result (λ w. IsBalanced (mode_of (module_value «module».now) scan) (wrapper_value w).chains) }
+    ensures proper { IfOk result
+        (λ w. IsProper (module_value «module».now) scan (wrapper_value w).chains) }
+    ensures balanced { IfOk result
+        (λ w. IsBalanced (mode_of (module_value «module».now) scan) (wrapper_value w).chains) }
 {
     let chains = chains_of(alloc, module, scan, width)?;
     Ok(Wrapper {
@@ -65,7 +67,8 @@ fn chains_of(
 ) -> Result<Vec<ChainPlan>, AllocError>
     requires small { module_size (module_value «module».now) ≤ 10 ^ 18 }
     requires some_wire { 1 ≤ width }
-    ensures { IfOk result (λ v. map chain_value v.items ≡ design (mode_of (module_value «module».now) scan) width) }
+    ensures { IfOk result
+        (λ v. map chain_value v.items ≡ design (mode_of (module_value «module».now) scan) width) }
 {
     let lengths = mode_chains(module, scan);
     let order = longest_first(alloc, lengths)?;

@@ -69,7 +69,8 @@ fn replace_least(heap: &mut [u64], grown: u64)
     requires heap { IsMinHeap heap.old }
     requires greater { slice_index heap.old 0 ≤ grown }
     ensures heap { IsMinHeap heap.new }
-    ensures sums { (f : ℕ → ℕ) → sum_by f heap.new + f (slice_index heap.old 0) ≡ sum_by f heap.old + f grown }
+    ensures sums { (f : ℕ → ℕ) →
+        sum_by f heap.new + f (slice_index heap.old 0) ≡ sum_by f heap.old + f grown }
 {
     let mut place = 0;
     while 2 * place + 2 < heap.len() {
@@ -96,7 +97,8 @@ pub fn longest_part(order: &[ScanChain], loads: &mut [u64]) -> u64
     requires small { length loads.old < 2 ^ 62 }
     requires empty { loads.old ≡ replicate (length loads.old) 0 }
     requires fits { sum_by (λ c. c.length.0) order.now < 2 ^ 63 }
-    ensures { (lengths : List ℕ) → IsOrder lengths order.now → result ≡ longest_part lengths (length loads.old) }
+    ensures { (lengths : List ℕ) → IsOrder lengths order.now →
+        result ≡ longest_part lengths (length loads.old) }
 {
     let mut longest: u64 = 0;
     for chain in order {

@@ -35,7 +35,8 @@ impl<'a> Model for PathLengths<'a> {
 
     ghost view = { λ d. record { lengths = d.lengths.now; ins = d.ins; outs = d.outs } };
 
-    ghost invariant = { λ d. IsPrepared d.lengths.now d.order.items d.longest_chain d.flops d.ins d.outs };
+    ghost invariant = { λ d. IsPrepared d.lengths.now d.order.items d.longest_chain d.flops d.ins
+        d.outs };
 }
 
 /// A width up to `most` up to which chains are filled as at a width: a share of `cells` reaches the same level, or none is
@@ -117,8 +118,10 @@ impl<'a> PathLengths<'a> {
         requires so { so ≡ out_length_of self.now (design self.now width) }
         ensures least { width ≤ result }
         ensures most { result ≤ most }
-        ensures si { (v : ℕ) → width ≤ v → v ≤ result → in_length_of self.now (design self.now v) ≡ si }
-        ensures so { (v : ℕ) → width ≤ v → v ≤ result → out_length_of self.now (design self.now v) ≡ so }
+        ensures si { (v : ℕ) → width ≤ v → v ≤ result →
+            in_length_of self.now (design self.now v) ≡ si }
+        ensures so { (v : ℕ) → width ≤ v → v ≤ result →
+            out_length_of self.now (design self.now v) ≡ so }
     {
         if self.order.len() > width as usize {
             return width;
