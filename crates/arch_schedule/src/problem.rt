@@ -177,7 +177,7 @@ fn push_module(modules: &mut Vec<u64>, module: &Module) -> Result<Option<usize>,
 
 impl TimedTests {
     /// The tests of a job, which are the live tests of a chip, with their cycles on up to `wires` wires in packed wrappers.
-    /// `NoMemory` where there is none.
+    /// `NoMemory` where memory runs out.
     pub fn new(
         alloc: Global,
         soc: &Soc,

@@ -234,7 +234,7 @@ fn rankings_of(
     Ok(rankings)
 }
 
-/// The cycles of a problem's modules. `NoMemory` where there is none.
+/// The cycles of a problem's modules. `NoMemory` where memory runs out.
 pub fn times_of(alloc: Global, problem: &TimedTests) -> Result<Times, NoMemory>
     requires { (job : JobValue) × IsProblem job problem.now }
     ensures { IfOk result (AreTimesOf problem.now) }

@@ -107,7 +107,7 @@ fn no_modules(alloc: Global, problem: &TimedTests) -> Result<Vec<DealtModule>, N
 
 impl<'a> Search<'a> {
     /// A search that begins at a plan of the job's tests, each found by its name among these. All memory that it ever takes is
-    /// taken here; `NoMemory` where there is none.
+    /// taken here; `NoMemory` where memory runs out.
     pub fn new(
         alloc: Global,
         names: &LiveTests,

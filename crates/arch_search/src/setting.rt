@@ -80,7 +80,7 @@ fn longest_self_test(job: &Job) -> u64 {
 }
 
 impl<'a> SearchSetting<'a> {
-    /// What a search for the tests of a job goes by. `NoMemory` where there is none.
+    /// What a search for the tests of a job goes by. `NoMemory` where memory runs out.
     pub(crate) fn new(
         alloc: Global,
         problem: &'a TimedTests,

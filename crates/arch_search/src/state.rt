@@ -262,7 +262,7 @@ fn first_buses(
     Ok(buses)
 }
 
-/// The first state: the buses of a plan and the order of its tests, each found by its name. `NoMemory` where there is none.
+/// The first state: the buses of a plan and the order of its tests, each found by its name. `NoMemory` where memory runs out.
 pub(crate) fn first_state(
     alloc: Global,
     names: &LiveTests,

@@ -9,8 +9,8 @@ use Rattle.plan_model.specs.Operations.{Operation, Capture}
 use Rattle.plan_model.specs.Plans.{PlannedTest, uses}
 use Rattle.plan_model.specs.Right.{IsAt, IsReadAt}
 use Rattle.plan_model.specs.Runs.{Content, carried, chain_at, wanted}
-use Rattle.plan_model.specs.Moments.{phase_ops, turn_value, wanted_by, moment_ahead, moment_behind, IsMoment}
-use Rattle.plan_model.specs.declared.moments.Turn.{Turn}
+use Rattle.plan_model.specs.Moments.{phase_ops, near_capture, wanted_by, moment_ahead, moment_behind, IsMoment}
+use Rattle.plan_model.specs.declared.moments.NearCapture.{NearCapture}
 use Rattle.plan_model.specs.declared.moments.Moment.{Moment}
 use Rattle.plan_model.proofs.ChainsInTheRun.{at_first_user_is, uses_wire}
 use Rattle.plan_model.proofs.LoadsAndReads.{begun_at, chain_is}
@@ -142,7 +142,7 @@ module _ {drive : ℕ → ℕ → ℕ → Bool} {mark : ℕ → ℕ → ℕ → 
 
   -- ---- a stretch
 
-  module _ (cycle : ℕ) {count row : ℕ} {ahead behind : Option Turn} {new : List ℕ} (begun : l.start ≤ cycle) (ends : cycle + count ≤ l.end)
+  module _ (cycle : ℕ) {count row : ℕ} {ahead behind : Option NearCapture} {new : List ℕ} (begun : l.start ≤ cycle) (ends : cycle + count ≤ l.end)
       (shifts : AreShifts l.phases (cycle - l.start) ahead behind count) (narrow : l.first_wire + length l.paths.items ≤ wires)
       (put : AreChainsPut (drive l.key) (mark l.key) l.paths.items (length l.paths.items) wires row count l.first_wire ahead behind old new) where
     pub stretch_played : (n : ℕ) → t.tam ≡ true → n < count → IsPlayed content marks t wires (cycle + n) (row + n) old new
@@ -184,7 +184,7 @@ module _ {drive : ℕ → ℕ → ℕ → Bool} {mark : ℕ → ℕ → ℕ → 
             let column : l.first_wire + (w - t.first_wire) ≡ w = omega (arith, first) in
             let byte = put.driven (w - t.first_wire) p.0 there p.1 h.is.inputs h.is.lengths (chain_at t (w - t.first_wire)) (wired.path (w - t.first_wire) p.0 p.1) n less (rw column blank) in
             let byte' = rw column at byte in
-            byte' ∙ ap (λ b. Some (digit b)) (ap (λ (f : ℕ → Cell → Bool). wanted_by f (chain_at t (w - t.first_wire)) (option_map turn_value (earlier n ahead))) (sym (h.is.stimulus tam))
+            byte' ∙ ap (λ b. Some (digit b)) (ap (λ (f : ℕ → Cell → Bool). wanted_by f (chain_at t (w - t.first_wire)) (option_map near_capture (earlier n ahead))) (sym (h.is.stimulus tam))
             ∙ sym (wanted_at t l (cycle + n) at now content (chain_at t (w - t.first_wire)) wired.operations))
         driving w u blank (inr past) =
             let low = u.low in
@@ -192,7 +192,7 @@ module _ {drive : ℕ → ℕ → ℕ → Bool} {mark : ℕ → ℕ → ℕ → 
             let empty = get_or_past t.chains (w - t.first_wire) [] (omega (arith, many)) in
             let kept = put.others (row + n) w (omega (arith, within)) (inl (inr (omega (arith, first)), inl (omega (arith, within)))) in
             kept ∙ blank ∙ ap (λ b. Some (digit b)) (sym (wanted_at t l (cycle + n) at now content (chain_at t (w - t.first_wire)) wired.operations
-            ∙ ap (λ (cells : List Cell). wanted_by (content.stimulus t.id) cells (option_map turn_value (earlier n ahead))) empty ∙ wanted_nothing (content.stimulus t.id) (option_map turn_value (earlier n ahead))))
+            ∙ ap (λ (cells : List Cell). wanted_by (content.stimulus t.id) cells (option_map near_capture (earlier n ahead))) empty ∙ wanted_nothing (content.stimulus t.id) (option_map near_capture (earlier n ahead))))
 
         -- a wire of a chain is used
         used : (w : ℕ) → l.first_wire ≤ w → w < l.first_wire + length l.paths.items → uses (cycle + n) w t ≡ true
@@ -218,19 +218,19 @@ module _ {drive : ℕ → ℕ → ℕ → Bool} {mark : ℕ → ℕ → ℕ → 
             (byte_at new wires (row + n) (wires + 1 + w) ≡ byte_at old wires (row + n) (wires + 1 + w)) ⊎ ((k : ℕ) × (x : Cell) × IsReadAt t k x (cycle + n) w)
         others w within (inl before) b = inl (put.others (row + n) (wires + 1 + w) (omega (arith, within)) (inl (inr (omega arith), inl (omega arith))))
         others w within (inr from) (inr past) = inl (put.others (row + n) (wires + 1 + w) (omega (arith, within)) (inl (inr (omega arith), inr (omega arith))))
-        others w within (inr from) (inl inside) = by (w - t.first_wire) (omega (arith, first)) (omega (arith, first)) (cases_Bool (is_answered (chain_at t (w - t.first_wire)) (option_map turn_value (later n behind)))) where
-          by : (j : ℕ) → w ≡ t.first_wire + j → j < length l.paths.items → (is_answered (chain_at t (w - t.first_wire)) (option_map turn_value (later n behind)) ≡ true) ⊎ (is_answered (chain_at t (w - t.first_wire))
-              (option_map turn_value (later n behind)) ≡ false) →
+        others w within (inr from) (inl inside) = by (w - t.first_wire) (omega (arith, first)) (omega (arith, first)) (cases_Bool (is_answered (chain_at t (w - t.first_wire)) (option_map near_capture (later n behind)))) where
+          by : (j : ℕ) → w ≡ t.first_wire + j → j < length l.paths.items → (is_answered (chain_at t (w - t.first_wire)) (option_map near_capture (later n behind)) ≡ true) ⊎ (is_answered (chain_at t (w - t.first_wire))
+              (option_map near_capture (later n behind)) ≡ false) →
               (byte_at new wires (row + n) (wires + 1 + w) ≡ byte_at old wires (row + n) (wires + 1 + w)) ⊎ ((k : ℕ) × (x : Cell) × IsReadAt t k x (cycle + n) w)
           by j wire there (inl yes') =
-              let f = from_answered (chain_at t (w - t.first_wire)) (option_map turn_value (later n behind)) yes' in
+              let f = from_answered (chain_at t (w - t.first_wire)) (option_map near_capture (later n behind)) yes' in
               let start : t.start ≤ cycle + n = let s : l.start ≡ t.start = h.is.fitted.start in omega arith in
               let number : w - t.first_wire ≡ j = omega arith in
               inr (f.1, from_end (chain_at t (w - t.first_wire)) f.0, read_there t l (cycle + n) w (w - t.first_wire) f.0 f.1 wired.operations start at (omega arith) now f.2 f.3)
           by j wire there (inr no') =
               let p = some_item l.paths.items j there in
               let number : w - t.first_wire ≡ j = omega arith in
-              let none : is_answered (chain_at t j) (option_map turn_value (later n behind)) ≡ false = rw number at no' in
+              let none : is_answered (chain_at t j) (option_map near_capture (later n behind)) ≡ false = rw number at no' in
               let column : wires + 1 + (l.first_wire + j) ≡ wires + 1 + w = omega (arith, first) in
               let kept = (put.read j p.0 there p.1).unread h.is.inputs h.is.lengths (chain_at t j) (wired.path j p.0 p.1) n less none in
               inl (rw column at kept)

@@ -8,9 +8,9 @@ use Rattle.plan_model.specs.Cells.{Cell, In, is_loaded, in_length, out_length}
 use Rattle.plan_model.specs.OneTest.{from_end}
 use Rattle.plan_model.specs.Operations.{Operation, Setup, Shift, Capture, SelfTest, ahead}
 use Rattle.plan_model.specs.Runs.{wanted}
-use Rattle.plan_model.specs.Moments.{turn_value, wanted_by, phase_ops, IsMoment}
+use Rattle.plan_model.specs.Moments.{near_capture, wanted_by, phase_ops, IsMoment}
 use Rattle.plan_model.specs.declared.moments.Phases.{Phases}
-use Rattle.plan_model.specs.declared.moments.Turn.{Turn}
+use Rattle.plan_model.specs.declared.moments.NearCapture.{NearCapture}
 use Rattle.plan_model.proofs.ByDivision.{shift_moment}
 use Rattle.plan_model.proofs.ChainShifts.{at_head}
 use Rattle.plan_model.proofs.OperationBlocks.{capture_found, capture_place}
@@ -116,25 +116,25 @@ shifts_ahead ops n s k (suc i) at e h =
 -- ---- the moments of a stretch
 
 module _ (i s k : ℕ) where
-  moved_on : (b : Option Turn) → option_map turn_value (later i b) ≡ Some (s, k) → i ≤ s → option_map turn_value b ≡ Some (s - i, k)
+  moved_on : (b : Option NearCapture) → option_map near_capture (later i b) ≡ Some (s, k) → i ≤ s → option_map near_capture b ≡ Some (s - i, k)
   moved_on None e h = absurd cc
   moved_on (Some t) e h =
       let same = same_pair e in
       same_option (s - i) k t.shifts (omega (arith, same.0)) same.1
 
-  moved_back : (b : Option Turn) → option_map turn_value b ≡ Some (s, k) → option_map turn_value (later i b) ≡ Some (s + i, k)
+  moved_back : (b : Option NearCapture) → option_map near_capture b ≡ Some (s, k) → option_map near_capture (later i b) ≡ Some (s + i, k)
   moved_back None e = absurd cc
   moved_back (Some t) e =
       let same = same_pair e in
       same_option (s + i) k (t.shifts + i) (omega (arith, same.0)) same.1
 
-  on_least : (b : Option Turn) → option_map turn_value (later i b) ≡ Some (s, k) → i ≤ s
+  on_least : (b : Option NearCapture) → option_map near_capture (later i b) ≡ Some (s, k) → i ≤ s
   on_least None e = absurd cc
   on_least (Some t) e = let same = same_pair e in omega (arith, same.0)
 
 module _ {p : Phases} {n : ℕ} where
   -- `i` Shifts later the capture ahead is `i` Shifts nearer, and the one behind `i` Shifts farther
-  moment_before : (i : ℕ) (a : Turn) (b : Option Turn) → IsMoment p n (moment.Shift (Some a) b) → i ≤ a.shifts →
+  moment_before : (i : ℕ) (a : NearCapture) (b : Option NearCapture) → IsMoment p n (moment.Shift (Some a) b) → i ≤ a.shifts →
       IsMoment p (n + i) (moment.Shift (earlier i (Some a)) (later i b))
   moment_before i a b is h =
       let next = next_ahead (phase_ops p) n is.operation (Some (a.shifts, a.pattern)) is.wants in
@@ -149,7 +149,7 @@ module _ {p : Phases} {n : ℕ} where
         every = λ s k q capture at within. every s k q capture at within (cases_lt q n);
       }
     where
-      every : (s k q : ℕ) → slice_get (phase_ops p) q ≡ Some (Capture k) → n + i ≡ q + 1 + s → s < p.so → (q < n) ⊎ (n ≤ q) → option_map turn_value (later i b) ≡ Some (s, k)
+      every : (s k q : ℕ) → slice_get (phase_ops p) q ≡ Some (Capture k) → n + i ≡ q + 1 + s → s < p.so → (q < n) ⊎ (n ≤ q) → option_map near_capture (later i b) ≡ Some (s, k)
       every s k q capture at within (inl before) =
           let known = is.every (s - i) k q capture (omega arith) (omega arith) in
           let left : s - i + i ≡ s = omega arith in
@@ -163,7 +163,7 @@ module _ {p : Phases} {n : ℕ} where
           absurd cc
 
   -- behind the last capture there are Shifts up to the end
-  moment_after : (i : ℕ) (b : Turn) → IsMoment p n (moment.Shift None (Some b)) → b.shifts + i < p.so →
+  moment_after : (i : ℕ) (b : NearCapture) → IsMoment p n (moment.Shift None (Some b)) → b.shifts + i < p.so →
       IsMoment p (n + i) (moment.Shift None (later i (Some b)))
   moment_after i b is h =
       let q = is.behind b.shifts b.pattern refl in
@@ -176,7 +176,7 @@ module _ {p : Phases} {n : ℕ} where
           let place' : q ≡ p.setup + p.si + d * (1 + max p.si p.so) = rw d' at place in
           let before = lt-ltb (suc d) p.patterns (omega arith) in
           let within : b.shifts < cond (ltb (suc d) p.patterns) (max p.si p.so) p.so = rw before (omega arith) in
-          let next : Turn = record { shifts = max p.si p.so - suc b.shifts; pattern = suc (suc d) } in
+          let next : NearCapture = record { shifts = max p.si p.so - suc b.shifts; pattern = suc (suc d) } in
           let other : IsMoment p n (moment.Shift (Some (record { shifts = max p.si p.so - suc b.shifts; pattern = suc (suc d) })) (Some (record { shifts = b.shifts; pattern = suc d }))) =
           shift_moment p n d b.shifts (Some (record { shifts = max p.si p.so - suc b.shifts; pattern = suc (suc d) })) (omega arith) (omega arith) within (rw before refl) in
           let some = next_ahead (phase_ops p) n is.operation (Some (max p.si p.so - suc b.shifts, suc (suc d))) other.wants in
@@ -190,21 +190,21 @@ module _ {p : Phases} {n : ℕ} where
           rw number (shift_moment p (n + i) d (b.shifts + i) None (omega arith) (omega arith) within (rw past refl))
 
   -- how many Shifts there are
-  pub shifts_before : (count : ℕ) {ahead : Option Turn} (behind : Option Turn) {a : Turn} → ahead ≡ Some a → count ≤ a.shifts + 1 →
+  pub shifts_before : (count : ℕ) {ahead : Option NearCapture} (behind : Option NearCapture) {a : NearCapture} → ahead ≡ Some a → count ≤ a.shifts + 1 →
       IsMoment p n (moment.Shift ahead behind) → AreShifts p n ahead behind count
   shifts_before count behind {a} is few m i h =
-      subst (λ (o : Option Turn). IsMoment p n (moment.Shift o behind) → IsMoment p (n + i) (moment.Shift (earlier i o) (later i behind))) (sym is) (λ m. moment_before i a behind m (omega arith)) m
+      subst (λ (o : Option NearCapture). IsMoment p n (moment.Shift o behind) → IsMoment p (n + i) (moment.Shift (earlier i o) (later i behind))) (sym is) (λ m. moment_before i a behind m (omega arith)) m
 
-  pub shifts_after : (count : ℕ) {behind : Option Turn} {b : Turn} → behind ≡ Some b → count ≡ p.so - b.shifts →
+  pub shifts_after : (count : ℕ) {behind : Option NearCapture} {b : NearCapture} → behind ≡ Some b → count ≡ p.so - b.shifts →
       IsMoment p n (moment.Shift None behind) → AreShifts p n None behind count
   shifts_after count {b} is many m i h =
-      subst (λ (o : Option Turn). IsMoment p n (moment.Shift None o) → IsMoment p (n + i) (moment.Shift None (later i o))) (sym is) (λ m. moment_after i b m (omega arith)) m
+      subst (λ (o : Option NearCapture). IsMoment p n (moment.Shift None o) → IsMoment p (n + i) (moment.Shift None (later i o))) (sym is) (λ m. moment_after i b m (omega arith)) m
 
-  pub none_ahead : (count : ℕ) {ahead : Option Turn} (behind : Option Turn) → ahead ≡ None →
+  pub none_ahead : (count : ℕ) {ahead : Option NearCapture} (behind : Option NearCapture) → ahead ≡ None →
       ((n : ℕ) → IsMoment p n (moment.Shift None behind) → AreShifts p n None behind count) → IsMoment p n (moment.Shift ahead behind) →
       AreShifts p n ahead behind count
   none_ahead count behind is shifts m =
-      subst (λ (o : Option Turn). IsMoment p n (moment.Shift o behind) → AreShifts p n o behind count) (sym is) (shifts n) m
+      subst (λ (o : Option NearCapture). IsMoment p n (moment.Shift o behind) → AreShifts p n o behind count) (sym is) (shifts n) m
 
 -- ---- the bits of a chain
 
@@ -227,15 +227,15 @@ module _ (k : ℕ) {inputs : ℕ} {lengths : List ℕ} {cells : List Cell} {p : 
   answer_mark marks q at =
       ap (marks k) (is.answer (length cells - 1 - s) q (omega arith) (omega arith))
 
-module _ (byte : ℕ → ℕ) {wires : ℕ} (row count : ℕ) {column : ℕ} (p : Path) {t : Turn} (last : ℕ) {old new : List ℕ} (narrow : column < 2 * wires + 2) where
+module _ (byte : ℕ → ℕ) {wires : ℕ} (row count : ℕ) {column : ℕ} (p : Path) {t : NearCapture} (last : ℕ) {old new : List ℕ} (narrow : column < 2 * wires + 2) where
   -- what was put down for a chain; `idle` Shifts carry nothing of it
-  pub load_put : (bits : ℕ → ℕ → Bool) (idle : ℕ) {ahead : Option Turn} → ahead ≡ Some t → last ≡ t.shifts →
+  pub load_put : (bits : ℕ → ℕ → Bool) (idle : ℕ) {ahead : Option NearCapture} → ahead ≡ Some t → last ≡ t.shifts →
       ((n : ℕ) → byte n ≡ digit (bits t.pattern n)) → idle ≤ count → count ≤ last + 1 → ((i : ℕ) → i < idle → length p.loads + i ≤ last) →
       (idle < count → last < length p.loads + idle) →
       ArePutDown wires (row + idle) (count - idle) column (λ i. byte (slice_index p.loads (last - idle - i))) old new →
       IsDriven bits p wires row count column ahead old new
   load_put bits idle is at made few back empty rest down inputs lengths cells path i h blank =
-      go (cases_lt i idle) ∙ ap (λ o. Some (digit (wanted_by (numbered_stimulus bits inputs lengths) cells (option_map turn_value (earlier i o))))) (sym is)
+      go (cases_lt i idle) ∙ ap (λ o. Some (digit (wanted_by (numbered_stimulus bits inputs lengths) cells (option_map near_capture (earlier i o))))) (sym is)
     where
       go : (i < idle) ⊎ (idle ≤ i) → byte_at new wires (row + i) column ≡ Some (digit (wanted_by (numbered_stimulus bits inputs lengths) cells (Some (t.shifts - i, t.pattern))))
       go (inl early) =
@@ -249,11 +249,11 @@ module _ (byte : ℕ → ℕ) {wires : ℕ} (row count : ℕ) {column : ℕ} (p 
           let put' : byte_at new wires (row + i) column ≡ Some (byte (slice_index p.loads (t.shifts - i))) = subst (λ (r : ℕ). byte_at new wires r column ≡ Some (byte (slice_index p.loads (t.shifts - i)))) place (rw number at put) in
           put' ∙ ap Some (made (slice_index p.loads (t.shifts - i))) ∙ ap (λ b. Some (digit b)) (load_bit t.pattern (t.shifts - i) path bits (omega arith))
 
-  pub answer_put : (marks : ℕ → ℕ → ℕ) {m : ℕ} (left : ℕ) {behind : Option Turn} → behind ≡ Some t → t.shifts + left ≡ length p.answers → 1 ≤ left →
+  pub answer_put : (marks : ℕ → ℕ → ℕ) {m : ℕ} (left : ℕ) {behind : Option NearCapture} → behind ≡ Some t → t.shifts + left ≡ length p.answers → 1 ≤ left →
       last ≡ left - 1 → m ≡ min count left → ((n : ℕ) → byte n ≡ marks t.pattern n) →
       ArePutDown wires row m column (λ i. byte (slice_index p.answers (last - i))) old new → IsRead marks p wires row count column behind old new
   answer_put marks {m} left is all some at few made down =
-      subst (λ (o : Option Turn). IsRead marks p wires row count column o old new) (sym is) (record {
+      subst (λ (o : Option NearCapture). IsRead marks p wires row count column o old new) (sym is) (record {
         read = λ inputs lengths cells path i s k h e within.
             let same = same_pair e in
             let long = path.answers_long in
@@ -270,21 +270,21 @@ module _ (byte : ℕ → ℕ) {wires : ℕ} (row count : ℕ) {column : ℕ} (p 
           absurd (true≢false (sym yes' ∙ none))
       past inputs lengths cells path i h none (inr under) = inr (inr (omega arith))
 
--- one turn alone stands in an option
-pub same_turn : {o : Option Turn} {t u : Turn} → o ≡ Some t → o ≡ Some u → t.shifts ≡ u.shifts
-same_turn {t} {u} e f = ap (λ (t : Turn). t.shifts) (same_Some t u (sym e ∙ f))
+-- one capture alone stands in an option
+pub same_turn : {o : Option NearCapture} {t u : NearCapture} → o ≡ Some t → o ≡ Some u → t.shifts ≡ u.shifts
+same_turn {t} {u} e f = ap (λ (t : NearCapture). t.shifts) (same_Some t u (sym e ∙ f))
 
 module _ (wires row count : ℕ) (old : List ℕ) where
   -- a chain that shows nothing more
-  pub no_answer : (marks : ℕ → ℕ → ℕ) (column : ℕ) (p : Path) (behind : Option Turn) → ((t : Turn) → behind ≡ Some t → length p.answers ≤ t.shifts) →
+  pub no_answer : (marks : ℕ → ℕ → ℕ) (column : ℕ) (p : Path) (behind : Option NearCapture) → ((t : NearCapture) → behind ≡ Some t → length p.answers ≤ t.shifts) →
       IsRead marks p wires row count column behind old old
   no_answer marks column p behind past = record {
     read = λ inputs lengths cells path i s k h e within. absurd (none inputs lengths cells path i s k behind past e within);
     unread = λ inputs lengths cells path i h none. refl;
   }
     where
-      none : (inputs : ℕ) (lengths : List ℕ) (cells : List Cell) → IsPath inputs lengths cells p → (i s k : ℕ) (b : Option Turn) → ((t : Turn) → b ≡ Some t → length p.answers ≤ t.shifts) →
-          option_map turn_value (later i b) ≡ Some (s, k) → s < out_length cells → ⊥
+      none : (inputs : ℕ) (lengths : List ℕ) (cells : List Cell) → IsPath inputs lengths cells p → (i s k : ℕ) (b : Option NearCapture) → ((t : NearCapture) → b ≡ Some t → length p.answers ≤ t.shifts) →
+          option_map near_capture (later i b) ≡ Some (s, k) → s < out_length cells → ⊥
       none inputs lengths cells path i s k None past e within = cc
       none inputs lengths cells path i s k (Some t) past e within =
           let same = same_pair e in
@@ -301,7 +301,7 @@ module _ (wires row count : ℕ) (old : List ℕ) where
 
   -- ---- chain by chain
 
-  pub no_chains : (bits : ℕ → ℕ → Bool) (marks : ℕ → ℕ → ℕ) (paths : List Path) (first : ℕ) (ahead behind : Option Turn) →
+  pub no_chains : (bits : ℕ → ℕ → Bool) (marks : ℕ → ℕ → ℕ) (paths : List Path) (first : ℕ) (ahead behind : Option NearCapture) →
       AreChainsPut bits marks paths 0 wires row count first ahead behind old old
   no_chains bits marks paths first ahead behind = record {
     long = refl;
@@ -314,18 +314,18 @@ module _ (p : Path) (wires row count column : ℕ) (old now mid new : List ℕ)
     (before : ((r : ℕ) → byte_at now wires r column ≡ byte_at old wires r column))
     (after : ((r : ℕ) → byte_at new wires r column ≡ byte_at mid wires r column)) where
   -- what was driven into a column from a text that has the same there, and stays
-  driven_kept : (bits : ℕ → ℕ → Bool) (ahead : Option Turn) → IsDriven bits p wires row count column ahead now mid →
+  driven_kept : (bits : ℕ → ℕ → Bool) (ahead : Option NearCapture) → IsDriven bits p wires row count column ahead now mid →
       IsDriven bits p wires row count column ahead old new
   driven_kept bits ahead is inputs lengths cells path i h blank = after (row + i) ∙ is inputs lengths cells path i h (before (row + i) ∙ blank)
 
-  read_kept : {marks : ℕ → ℕ → ℕ} {behind : Option Turn} → IsRead marks p wires row count column behind now mid →
+  read_kept : {marks : ℕ → ℕ → ℕ} {behind : Option NearCapture} → IsRead marks p wires row count column behind now mid →
       IsRead marks p wires row count column behind old new
   read_kept is = record {
     read = λ inputs lengths cells path i s k h e within. after (row + i) ∙ is.read inputs lengths cells path i s k h e within;
     unread = λ inputs lengths cells path i h none. after (row + i) ∙ is.unread inputs lengths cells path i h none ∙ before (row + i);
   }
 
-pub chain_more : {bits : ℕ → ℕ → Bool} {marks : ℕ → ℕ → ℕ} {paths : List Path} {n wires row count first : ℕ} {ahead behind : Option Turn} {p : Path}
+pub chain_more : {bits : ℕ → ℕ → Bool} {marks : ℕ → ℕ → ℕ} {paths : List Path} {n wires row count first : ℕ} {ahead behind : Option NearCapture} {p : Path}
     {old now mid new : List ℕ} → slice_get paths n ≡ Some p → first + n < wires →
     AreChainsPut bits marks paths n wires row count first ahead behind old now → length mid ≡ length now →
     IsDriven bits p wires row count (first + n) ahead now mid → IsKeptElsewhere wires row count (first + n) now mid → length new ≡ length mid →

@@ -6,8 +6,8 @@ use Rattle.plan_model.specs.OneTest.{from_end}
 use Rattle.plan_model.specs.Plans.{PlanValue, PlannedTest, planned, uses}
 use Rattle.plan_model.specs.Right.{IsAt, IsReadAt}
 use Rattle.plan_model.specs.Runs.{Content, carried, chain_at, wanted}
-use Rattle.plan_model.specs.Moments.{turn_value, wanted_by, IsMoment}
-use Rattle.plan_model.specs.declared.moments.Turn.{Turn}
+use Rattle.plan_model.specs.Moments.{near_capture, wanted_by, IsMoment}
+use Rattle.plan_model.specs.declared.moments.NearCapture.{NearCapture}
 use Rattle.plan_model.specs.declared.moments.Phases.{Phases}
 use Rattle.plan_model.specs.declared.moments.Moment.TheVariants as moment
 use Rattle.bit_machine.specs.Chips.{wires_of, IsCompared}
@@ -83,30 +83,31 @@ pub record IsBlank (wires row : ℕ) (text : List ℕ) : Type 0 where
 -- ---- a stretch of Shifts
 
 -- the captures ahead and behind some Shifts later
-abbrev pub earlier : ℕ → Option Turn → Option Turn
-earlier i a = option_map (λ (t : Turn). record { shifts = t.shifts - i; pattern = t.pattern }) a
+abbrev pub earlier : ℕ → Option NearCapture → Option NearCapture
+earlier i a = option_map (λ (t : NearCapture). record { shifts = t.shifts - i; pattern = t.pattern }) a
 
-abbrev pub later : ℕ → Option Turn → Option Turn
-later i b = option_map (λ (t : Turn). record { shifts = t.shifts + i; pattern = t.pattern }) b
+abbrev pub later : ℕ → Option NearCapture → Option NearCapture
+later i b = option_map (λ (t : NearCapture). record { shifts = t.shifts + i; pattern = t.pattern }) b
 
 -- from an operation on there are `count` Shifts
-abbrev pub AreShifts : Phases → (n : ℕ) (ahead behind : Option Turn) (count : ℕ) → Type 0
+abbrev pub AreShifts : Phases → (n : ℕ) (ahead behind : Option NearCapture) (count : ℕ) → Type 0
 AreShifts p n ahead behind count = (i : ℕ) → i < count → IsMoment p (n + i) (moment.Shift (earlier i ahead) (later i behind))
 
 -- the bits that a chain loads in a stretch are driven in a column where nothing was driven
-abbrev pub IsDriven : (bits : ℕ → ℕ → Bool) (p : Path) (wires row count column : ℕ) (ahead : Option Turn) (old new : List ℕ) → Type 0
+abbrev pub IsDriven : (bits : ℕ → ℕ → Bool) (p : Path) (wires row count column : ℕ) (ahead : Option NearCapture) (old new : List ℕ) → Type 0
 IsDriven bits p wires row count column ahead old new = (inputs : ℕ) (lengths : List ℕ) (cells : List Cell) → IsPath inputs lengths cells p →
     (i : ℕ) → i < count → byte_at old wires (row + i) column ≡ Some 48 →
     byte_at new wires (row + i) column ≡ Some (digit (wanted_by (numbered_stimulus bits inputs lengths) cells
-    (option_map turn_value (earlier i ahead))))
+    (option_map near_capture (earlier i ahead))))
 
 -- the bits that are read of it stand in a column, and where none is read nothing was put
-pub record IsRead (marks : ℕ → ℕ → ℕ) (p : Path) (wires row count column : ℕ) (behind : Option Turn) (old new : List ℕ) : Type 0 where
+pub record IsRead (marks : ℕ → ℕ → ℕ) (p : Path) (wires row count column : ℕ) (behind : Option NearCapture)
+    (old new : List ℕ) : Type 0 where
   pub read : (inputs : ℕ) (lengths : List ℕ) (cells : List Cell) → IsPath inputs lengths cells p → (i s k : ℕ) → i < count →
-      option_map turn_value (later i behind) ≡ Some (s, k) → s < out_length cells →
+      option_map near_capture (later i behind) ≡ Some (s, k) → s < out_length cells →
       byte_at new wires (row + i) column ≡ Some (numbered_marks marks lengths k (from_end cells s))
   pub unread : (inputs : ℕ) (lengths : List ℕ) (cells : List Cell) → IsPath inputs lengths cells p → (i : ℕ) → i < count →
-      is_answered cells (option_map turn_value (later i behind)) ≡ false →
+      is_answered cells (option_map near_capture (later i behind)) ≡ false →
       byte_at new wires (row + i) column ≡ byte_at old wires (row + i) column
 
 -- nothing was put elsewhere than in one column of some lines
@@ -121,7 +122,7 @@ IsApart wires row count first many r c =
 
 -- the first chains of a test were put
 pub record AreChainsPut (bits : ℕ → ℕ → Bool) (marks : ℕ → ℕ → ℕ) (paths : List Path) (many wires row count first : ℕ)
-    (ahead behind : Option Turn) (old new : List ℕ) : Type 0 where
+    (ahead behind : Option NearCapture) (old new : List ℕ) : Type 0 where
   pub long : length new ≡ length old
   pub driven : (j : ℕ) (p : Path) → j < many → slice_get paths j ≡ Some p → IsDriven bits p wires row count (first + j) ahead old new
   pub read : (j : ℕ) (p : Path) → j < many → slice_get paths j ≡ Some p →

@@ -97,13 +97,13 @@ impl SteppedLane {
     {
         let moment = self.lane.phases.at(cycle - self.lane.start);
         self.moment = moment;
-        if let Some(turn) = moment.ahead() {
+        if let Some(near) = moment.ahead() {
             let page = Page {
-                pattern: turn.pattern,
-                first: turn.shifts - turn.shifts % 64,
+                pattern: near.pattern,
+                first: near.shifts - near.shifts % 64,
             };
             if !self.has_page(page) {
-                self.turn_to(page);
+                self.show_page(page);
             }
         }
     }
@@ -119,7 +119,7 @@ impl SteppedLane {
     }
 
     /// Makes the words of a page.
-    fn turn_to(&mut self, page: Page)
+    fn show_page(&mut self, page: Page)
         requires ready { IsSteppable self.old }
         ensures same { IsSameTest self.old self.new }
         ensures moment { self.new.moment ≡ self.old.moment }
@@ -145,7 +145,7 @@ impl SteppedLane {
             return false;
         }
         match self.moment.ahead() {
-            Some(turn) => is_set(self.pages[chain], (turn.shifts % 64) as usize),
+            Some(near) => is_set(self.pages[chain], (near.shifts % 64) as usize),
             None => false,
         }
     }
@@ -170,7 +170,7 @@ impl SteppedLane {
             return false;
         }
         match self.moment.behind() {
-            Some(turn) => turn.shifts < self.lane.paths[chain].answers.len() as u64,
+            Some(near) => near.shifts < self.lane.paths[chain].answers.len() as u64,
             None => false,
         }
     }

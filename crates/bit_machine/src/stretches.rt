@@ -5,7 +5,7 @@ ghost use Rattle.std.specs.Prelude.{◌≡◌, ℕ, ◌+◌, ◌-◌, ◌*◌, �
 ghost use Rattle.plan_model.specs.Moments.{IsMoment};
 ghost use Rattle.plan_model.specs.Plans.{PlannedTest};
 ghost use Rattle.plan_model.specs.Runs.{Content};
-ghost use Rattle.plan_model.specs.declared.moments.Turn.{Turn};
+ghost use Rattle.plan_model.specs.declared.moments.NearCapture.{NearCapture};
 ghost use Rattle.plan_model.specs.declared.moments.Moment.TheVariants as moment;
 ghost use Rattle.bit_machine.specs.Lanes.{IsFilled};
 ghost use Rattle.bit_machine.specs.Machines.{AreLanes, AreOnWires, AreSomeLanes};
@@ -16,7 +16,7 @@ use crate::contents::Contents;
 use crate::lane::Lane;
 use crate::lines::{Place, put_blanks};
 use crate::path::Path;
-use plan_model::{Moment, Phases, Turn};
+use plan_model::{Moment, NearCapture, Phases};
 
 /// The most Shifts of a stretch, the bits of a word.
 const MOST: u64 = 64;
@@ -24,21 +24,21 @@ const MOST: u64 = 64;
 /// `count` Shifts, one a cycle, and the captures ahead of the first one and behind it.
 #[derive(Clone, Copy, Drop)]
 struct Stretch {
-    ahead: Option<Turn>,
-    behind: Option<Turn>,
+    ahead: Option<NearCapture>,
+    behind: Option<NearCapture>,
     count: usize,
 }
 
 /// How many Shifts there are from one on behind the last capture, at least itself.
-fn shifts_to_end(phases: &Phases, behind: Option<Turn>) -> u64
+fn shifts_to_end(phases: &Phases, behind: Option<NearCapture>) -> u64
     ensures some { 1 ≤ result }
     ensures shifts { (n : ℕ) → IsMoment phases.now n (moment.Shift None behind) →
         AreShifts phases.now n None behind result }
 {
     match behind {
-        Some(turn) => {
-            if turn.shifts < phases.so {
-                phases.so - turn.shifts
+        Some(near) => {
+            if near.shifts < phases.so {
+                phases.so - near.shifts
             } else {
                 1
             }
@@ -48,14 +48,14 @@ fn shifts_to_end(phases: &Phases, behind: Option<Turn>) -> u64
 }
 
 /// How many Shifts there are from one on up to the next capture, at least itself.
-fn shifts_to_come(phases: &Phases, ahead: Option<Turn>, behind: Option<Turn>) -> u64
+fn shifts_to_come(phases: &Phases, ahead: Option<NearCapture>, behind: Option<NearCapture>) -> u64
     ensures some { 1 ≤ result }
-    ensures back { (t : Turn) → ahead ≡ Some t → result ≤ t.shifts + 1 }
+    ensures back { (t : NearCapture) → ahead ≡ Some t → result ≤ t.shifts + 1 }
     ensures shifts { (n : ℕ) → IsMoment phases.now n (moment.Shift ahead behind) →
         AreShifts phases.now n ahead behind result }
 {
     match ahead {
-        Some(turn) => turn.shifts.saturating_add(1),
+        Some(near) => near.shifts.saturating_add(1),
         None => shifts_to_end(phases, behind),
     }
 }
@@ -87,7 +87,7 @@ fn put_load<C: Contents>(
     requires narrow { at.wires ≤ 256 }
     requires key { IsKey (C.keys contents.now) key }
     requires few { stretch.count ≤ 64 }
-    requires back { (t : Turn) → stretch.ahead ≡ Some t → stretch.count ≤ t.shifts + 1 }
+    requires back { (t : NearCapture) → stretch.ahead ≡ Some t → stretch.count ≤ t.shifts + 1 }
     requires column { at.column < 2 * at.wires + 2 }
     requires rows { (at.row + stretch.count) * (2 * at.wires + 2) ≤ length text.old }
     ensures long { length text.new ≡ length text.old }
@@ -96,14 +96,14 @@ fn put_load<C: Contents>(
     ensures others { IsKeptElsewhere at.wires at.row stretch.count at.column text.old text.new }
 {
     match stretch.ahead {
-        Some(turn) => {
+        Some(near) => {
             let loads = path.loads.len();
-            let shifts = turn.shifts as usize;
+            let shifts = near.shifts as usize;
             let idle = idle_shifts(shifts, loads, stretch.count);
             if idle >= stretch.count {
                 return;
             }
-            let bits = contents.stimulus(key, turn.pattern);
+            let bits = contents.stimulus(key, near.pattern);
             let below = Place {
                 row: at.row + idle,
                 ..at
@@ -136,14 +136,14 @@ fn put_answer<C: Contents>(
     ensures others { IsKeptElsewhere at.wires at.row stretch.count at.column text.old text.new }
 {
     match stretch.behind {
-        Some(turn) => {
+        Some(near) => {
             let answers = path.answers.len();
-            let shifts = turn.shifts as usize;
+            let shifts = near.shifts as usize;
             if shifts >= answers {
                 return;
             }
             let left = answers - shifts;
-            let bits = contents.response(key, turn.pattern);
+            let bits = contents.response(key, near.pattern);
             let count = stretch.count.min(left);
             path.answers.put_back(&bits, left - 1, count, text, at);
         }
@@ -164,7 +164,7 @@ fn put_chains<C: Contents>(
     requires key { IsKey (C.keys contents.now) lane.now.key }
     requires some { 1 ≤ stretch.count }
     requires few { stretch.count ≤ 64 }
-    requires back { (t : Turn) → stretch.ahead ≡ Some t → stretch.count ≤ t.shifts + 1 }
+    requires back { (t : NearCapture) → stretch.ahead ≡ Some t → stretch.count ≤ t.shifts + 1 }
     requires columns { lane.now.first_wire + length lane.now.paths.items ≤ wires }
     requires rows { (row + stretch.count) * (2 * wires + 2) ≤ length text.old }
     ensures { AreChainsPut (C.drive contents.now lane.now.key) (C.mark contents.now lane.now.key)

@@ -24,7 +24,7 @@ use proof_model::Proof;
 use proof_text::{ProofTextFault, read_proof};
 use std::alloc::Global;
 
-/// Checks a proof that was read for a chip under its limits. `NoMemory` where there is none.
+/// Checks a proof that was read for a chip under its limits. `NoMemory` where memory runs out.
 pub fn checked_proof(
     alloc: Global,
     problem: &Problem<'_>,

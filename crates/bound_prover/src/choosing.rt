@@ -29,7 +29,7 @@ impl Model for FoundProof {
 }
 
 impl FoundProof {
-    /// A proof with its text. `NoMemory` where there is none.
+    /// A proof with its text. `NoMemory` where memory runs out.
     pub fn new(alloc: Global, proof: Proof) -> Result<FoundProof, NoMemory>
         ensures { IfOk result (λ found. found ≡ proof_value proof) }
     {

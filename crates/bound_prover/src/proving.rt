@@ -112,7 +112,7 @@ pub fn proved_text<T: Sink>(
 /// The text of a proof by cases on buses, of at most `nodes` nodes: it is accepted for the chip under the limits, and claims at
 /// most `cycles` cycles, as many as a search with leaves Pack could show, or one without them. Where these could show nothing, or where
 /// the cycles are 0, it is the proof that claims nothing. From 10,000 nodes on each tenth of them that the search with leaves Pack made is
-/// reported to `progress`, with its claim so far; a `progress` that fails changes nothing else. `NoMemory` where there is none.
+/// reported to `progress`, with its claim so far; a `progress` that fails changes nothing else. `NoMemory` where memory runs out.
 pub fn proved<T: Sink>(
     alloc: Global,
     soc: &Soc,

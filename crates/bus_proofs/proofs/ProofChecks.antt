@@ -57,15 +57,15 @@ module _ (g : Basis) where
   -- ---- the room
 
   -- in the case of the root again
-  pub room_back : {a b : CaseRoom} {leaf : LeafRoom} (leaf' : LeafRoom) {turns : List OpenSplit} (turns' : List OpenSplit) → IsProofRoom g a leaf turns → IsSame a b →
-      FitsLeaves g leaf' → length turns' ≡ length turns → IsProofRoom g b leaf' turns'
-  room_back leaf' turns' room same fits long = record {
+  pub room_back : {a b : CaseRoom} {leaf : LeafRoom} (leaf' : LeafRoom) {stack : List OpenSplit} (stack' : List OpenSplit) → IsProofRoom g a leaf stack → IsSame a b →
+      FitsLeaves g leaf' → length stack' ≡ length stack → IsProofRoom g b leaf' stack'
+  room_back leaf' stack' room same fits long = record {
     basis_is = room.basis_is;
     said = room.said;
     room = same_room same room.room;
     root = same_case same room.root;
     leaves = fits;
-    turns_fit = omega (arith, long, room.turns_fit);
+    stack_fits = omega (arith, long, room.stack_fits);
   }
 
 -- ---- the room of leaves
@@ -112,11 +112,11 @@ uses_more nodes place most next {node} before within is here less q w q_less at 
 
 -- ---- a room is made
 
-pub new_room : (g : Basis) (soc : SocValue) (limits : LimitsValue) (p : ProofValue) (room : CaseRoom) (leaf : LeafRoom) (turns : List OpenSplit) (uses : ℕ) → IsBasis g →
+pub new_room : (g : Basis) (soc : SocValue) (limits : LimitsValue) (p : ProofValue) (room : CaseRoom) (leaf : LeafRoom) (stack : List OpenSplit) (uses : ℕ) → IsBasis g →
     chip_of g ≡ soc → limits_of g ≡ limits → proof_of g ≡ p → MayBeSaid p → HasCase room → IsCaseOf room root_case → room.modules ≡ length soc.modules → room.widths.wires ≡ limits.wires →
     room.widths.most ≡ 256 → HasLeafSpace g leaf → length leaf.pack.bus.places.items ≡ uses → uses ≤ 2 ^ 24 →
-    ((place : ℕ) (w : LeafValue) → slice_get p.nodes place ≡ Some (OfLeaf w) → named_in w ≤ uses) → length p.nodes ≤ length turns → IsProofRoom g room leaf turns
-new_room g soc limits p room leaf turns uses basis chip_is limits_is proof_is said has root modules wires most space places few each fit = record {
+    ((place : ℕ) (w : LeafValue) → slice_get p.nodes place ≡ Some (OfLeaf w) → named_in w ≤ uses) → length p.nodes ≤ length stack → IsProofRoom g room leaf stack
+new_room g soc limits p room leaf stack uses basis chip_is limits_is proof_is said has root modules wires most space places few each fit = record {
   basis_is = basis;
   said = subst MayBeSaid (sym proof_is) said;
   room = record {
@@ -132,7 +132,7 @@ new_room g soc limits p room leaf turns uses basis chip_is limits_is proof_is sa
   leaves = λ place w at.
       let lists = each place w (ap (λ (q : ProofValue). slice_get q.nodes place) (sym proof_is) ∙ at) in
       record { few = omega (arith, lists, few); places = omega (arith, lists, places); space = space };
-  turns_fit = omega (arith, fit, ap (λ (q : ProofValue). length q.nodes) proof_is);
+  stack_fits = omega (arith, fit, ap (λ (q : ProofValue). length q.nodes) proof_is);
 }
 
 -- ---- the bound

@@ -19,22 +19,22 @@ use Rattle.bus_proofs.specs.Bounds.{HasFault, KeepsNode, NodeHolds, all_cases, w
 use Rattle.leaf_bounds.specs.CaseRooms.{HasCase, IsCaseOf, IsFurther, IsMark}
 use Rattle.leaf_bounds.specs.Trails.{IsFew}
 use Rattle.leaf_bounds.specs.Bases.{chip_of, limits_of, lists_of, claim_of, proof_of}
-use Rattle.bus_proofs.specs.Walks.{no_turn, turn_at, split_case, branch_later, IsRoomFor, IsNodeAt, IsWideNow, IsPlaceAt, IsForked, IsTurn, IsLaterThen, IsWithin, Awaits, Begins, GoesOn, IsHere, IsFork, Follows, IsAt, IsBegun, IsSecond, IsJudged, IsEnoughFor, node_work}
+use Rattle.bus_proofs.specs.Walks.{no_split, split_at, split_case, branch_later, IsRoomFor, IsNodeAt, IsWideNow, IsPlaceAt, IsForked, IsOpenSplit, IsLaterThen, IsWithin, Awaits, Begins, GoesOn, IsHere, IsFork, Follows, IsAt, IsBegun, IsSecond, IsJudged, IsEnoughFor, node_work}
 use Rattle.leaf_bounds.proofs.Trails.{few_at}
 use Rattle.bus_proofs.proofs.RoomSteps.{further_none, further_then, room_next, with_rank_within}
 
 -- ---- what awaits behind the splits that are under way
 
-behind_same : (g : Basis) (turn : OpenSplit) (c : Case) (split : SplitValue) (P Q : List NodeCase → Type 0) → ((l : List NodeCase) → P l → Q l) → (left : List NodeCase) →
-    MatchBool turn.second (P left) (IsLaterThen g c split P left) → MatchBool turn.second (Q left) (IsLaterThen g c split Q left)
-behind_same g turn c split P Q goes left h = go turn.second h
+behind_same : (g : Basis) (opened : OpenSplit) (c : Case) (split : SplitValue) (P Q : List NodeCase → Type 0) → ((l : List NodeCase) → P l → Q l) → (left : List NodeCase) →
+    MatchBool opened.second (P left) (IsLaterThen g c split P left) → MatchBool opened.second (Q left) (IsLaterThen g c split Q left)
+behind_same g opened c split P Q goes left h = go opened.second h
   where
     go : (second : Bool) → MatchBool second (P left) (IsLaterThen g c split P left) → MatchBool second (Q left) (IsLaterThen g c split Q left)
     go true h = goes left h
     go false h = record { tree = h.tree; rest = h.rest; left_is = h.left_is; then = goes h.rest h.then }
 
-turn_further : {g : Basis} {root a b : CaseRoom} {turn : OpenSplit} {before : CaseRoom} {c : Case} {split : SplitValue} → IsFurther a b →
-    IsTurn g root a turn before c split → IsTurn g root b turn before c split
+turn_further : {g : Basis} {root a b : CaseRoom} {opened : OpenSplit} {before : CaseRoom} {c : Case} {split : SplitValue} → IsFurther a b →
+    IsOpenSplit g root a opened before c split → IsOpenSplit g root b opened before c split
 turn_further more t = record {
   mark = t.mark;
   room = t.room;
@@ -45,61 +45,61 @@ turn_further more t = record {
   further = further_then t.further more;
 }
 
-within_same : {g : Basis} {root : CaseRoom} {turn : OpenSplit} (P Q : CaseRoom → List NodeCase → Type 0) {a b : CaseRoom} {left : List NodeCase} → IsFurther a b →
-    ((r : CaseRoom) (l : List NodeCase) → P r l → Q r l) → IsWithin g root turn P a left → IsWithin g root turn Q b left
-within_same {g} {turn} P Q {left} more goes h = record {
+within_same : {g : Basis} {root : CaseRoom} {opened : OpenSplit} (P Q : CaseRoom → List NodeCase → Type 0) {a b : CaseRoom} {left : List NodeCase} → IsFurther a b →
+    ((r : CaseRoom) (l : List NodeCase) → P r l → Q r l) → IsWithin g root opened P a left → IsWithin g root opened Q b left
+within_same {g} {opened} P Q {left} more goes h = record {
   before = h.before;
   c = h.c;
   split = h.split;
-  turn_is = turn_further more h.turn_is;
-  behind = behind_same g turn h.c h.split (P h.before) (Q h.before) (goes h.before) left h.behind;
+  opened_is = turn_further more h.opened_is;
+  behind = behind_same g opened h.c h.split (P h.before) (Q h.before) (goes h.before) left h.behind;
 }
 
-module _ (g : Basis) (root : CaseRoom) (turns : List OpenSplit) where
-  pub awaits_further : (depth : ℕ) {a b : CaseRoom} (left : List NodeCase) → IsFurther a b → Awaits g root turns depth a left → Awaits g root turns depth b left
+module _ (g : Basis) (root : CaseRoom) (stack : List OpenSplit) where
+  pub awaits_further : (depth : ℕ) {a b : CaseRoom} (left : List NodeCase) → IsFurther a b → Awaits g root stack depth a left → Awaits g root stack depth b left
   unfolding Awaits
   awaits_further zero left more h = h
-  awaits_further (suc d) left more h = within_same (Awaits g root turns d) (Awaits g root turns d) more (λ r l x. x) h
+  awaits_further (suc d) left more h = within_same (Awaits g root stack d) (Awaits g root stack d) more (λ r l x. x) h
 
   -- the splits below the depth alone matter
-  awaits_same : (turns' : List OpenSplit) (depth : ℕ) (room : CaseRoom) (left : List NodeCase) → ((k : ℕ) → k < depth → turn_at turns' k ≡ turn_at turns k) →
-      Awaits g root turns depth room left → Awaits g root turns' depth room left
+  awaits_same : (stack' : List OpenSplit) (depth : ℕ) (room : CaseRoom) (left : List NodeCase) → ((k : ℕ) → k < depth → split_at stack' k ≡ split_at stack k) →
+      Awaits g root stack depth room left → Awaits g root stack' depth room left
   unfolding Awaits
-  awaits_same turns' zero room left same h = h
-  awaits_same turns' (suc d) room left same h =
-      subst (λ t. IsWithin g root t (Awaits g root turns' d) room left) (sym (same d (omega arith)))
-      (within_same (Awaits g root turns d) (Awaits g root turns' d) (further_none room)
-      (λ r l x. awaits_same turns' d r l (λ k less. same k (omega (arith, less))) x) h)
+  awaits_same stack' zero room left same h = h
+  awaits_same stack' (suc d) room left same h =
+      subst (λ t. IsWithin g root t (Awaits g root stack' d) room left) (sym (same d (omega arith)))
+      (within_same (Awaits g root stack d) (Awaits g root stack' d) (further_none room)
+      (λ r l x. awaits_same stack' d r l (λ k less. same k (omega (arith, less))) x) h)
 
-  pub awaits_none : (depth : ℕ) (room : CaseRoom) (left : List NodeCase) → depth ≡ 0 → Awaits g root turns depth room left → left ≡ []
+  pub awaits_none : (depth : ℕ) (room : CaseRoom) (left : List NodeCase) → depth ≡ 0 → Awaits g root stack depth room left → left ≡ []
   unfolding Awaits
   awaits_none depth room left none h = (rw none at h)
 
-  pub awaits_start : (room : CaseRoom) → Awaits g root turns 0 room []
+  pub awaits_start : (room : CaseRoom) → Awaits g root stack 0 room []
   unfolding Awaits
   awaits_start room = refl
 
-  pub awaits_open : (depth last : ℕ) (room : CaseRoom) (left : List NodeCase) → depth ≡ suc last → Awaits g root turns depth room left →
-      IsWithin g root (turn_at turns last) (Awaits g root turns last) room left
+  pub awaits_open : (depth last : ℕ) (room : CaseRoom) (left : List NodeCase) → depth ≡ suc last → Awaits g root stack depth room left →
+      IsWithin g root (split_at stack last) (Awaits g root stack last) room left
   unfolding Awaits
   awaits_open depth last room left is h = (rw is at h)
 
-  awaits_shut : (last : ℕ) {room : CaseRoom} {left : List NodeCase} → IsWithin g root (turn_at turns last) (Awaits g root turns last) room left →
-      Awaits g root turns (suc last) room left
+  awaits_shut : (last : ℕ) {room : CaseRoom} {left : List NodeCase} → IsWithin g root (split_at stack last) (Awaits g root stack last) room left →
+      Awaits g root stack (suc last) room left
   unfolding Awaits
   awaits_shut last h = h
 
-  awaits_close : (depth last : ℕ) (room : CaseRoom) {turn : OpenSplit} (left : List NodeCase) → suc last ≡ depth → turn_at turns last ≡ turn →
-      IsWithin g root turn (Awaits g root turns last) room left → Awaits g root turns depth room left
+  awaits_close : (depth last : ℕ) (room : CaseRoom) {opened : OpenSplit} (left : List NodeCase) → suc last ≡ depth → split_at stack last ≡ opened →
+      IsWithin g root opened (Awaits g root stack last) room left → Awaits g root stack depth room left
   awaits_close depth last room left is same h =
-      subst (λ n. Awaits g root turns n room left) is
-      (awaits_shut last (subst (λ t. IsWithin g root t (Awaits g root turns last) room left) (sym same) h))
+      subst (λ n. Awaits g root stack n room left) is
+      (awaits_shut last (subst (λ t. IsWithin g root t (Awaits g root stack last) room left) (sym same) h))
 
-turn_same : (turns : List OpenSplit) (n : ℕ) (turn : OpenSplit) → n < length turns → turn_at (slice_set turns n turn) n ≡ turn
-turn_same turns n turn within = get_or-set_same turns n turn no_turn within
+turn_same : (stack : List OpenSplit) (n : ℕ) (opened : OpenSplit) → n < length stack → split_at (slice_set stack n opened) n ≡ opened
+turn_same stack n opened within = get_or-set_same stack n opened no_split within
 
-turn_other : (turns : List OpenSplit) (n k : ℕ) (turn : OpenSplit) → k < n → turn_at (slice_set turns n turn) k ≡ turn_at turns k
-turn_other turns n k turn less = get_or-set_other turns n k turn no_turn (λ e. omega (arith, less, e))
+turn_other : (stack : List OpenSplit) (n k : ℕ) (opened : OpenSplit) → k < n → split_at (slice_set stack n opened) k ≡ split_at stack k
+turn_other stack n k opened less = get_or-set_other stack n k opened no_split (λ e. omega (arith, less, e))
 
 -- ---- a first branch begins
 
@@ -107,25 +107,25 @@ second_is : (soc : SocValue) (w : ℕ) (c : Case) (split : SplitValue) → secon
 second_is soc w c (OfWide rank width) = refl
 second_is soc w c (OfPlace m rank twins) = refl
 
--- the turn of a split whose first branch begins
+-- the open split whose first branch begins
 abbrev first_turn : Mark → (node : ℕ) → OpenSplit
 first_turn mark node = record { mark = mark; node = node; second = false }
 
 -- the room before the branches is `b`, and the one of the first branch `d`
-first_awaits : {g : Basis} {root : CaseRoom} (turns : List OpenSplit) {turns' : List OpenSplit} (depth node : ℕ) {a b d : CaseRoom} (c : Case) (split : SplitValue) {mark : Mark} →
-    IsFurther root a → depth < length turns → turns' ≡ slice_set turns depth (first_turn mark node) → IsMark mark b → IsRoomFor g b →
+first_awaits : {g : Basis} {root : CaseRoom} (stack : List OpenSplit) {stack' : List OpenSplit} (depth node : ℕ) {a b d : CaseRoom} (c : Case) (split : SplitValue) {mark : Mark} →
+    IsFurther root a → depth < length stack → stack' ≡ slice_set stack depth (first_turn mark node) → IsMark mark b → IsRoomFor g b →
     IsCaseOf b (split_case (limits_of g).wires c split) → IsForked (chip_of g) (split_case (limits_of g).wires c split) split → IsNodeAt g node (OfSplit split) →
-    IsFurther a b → IsFurther b d → (tree : CaseTree) (rest : List NodeCase) → Awaits g root turns depth a rest →
-    Awaits g root turns' (depth + 1) d (cases_of (chip_of g) (limits_of g).wires (second_case (chip_of g) (limits_of g).wires c split) tree ++ rest)
-first_awaits {g} {root} turns {turns'} depth node {b} {d} c split {mark} from room is marked for case forked at more next tree rest h =
-    awaits_close g root turns' (depth + 1) depth d
+    IsFurther a b → IsFurther b d → (tree : CaseTree) (rest : List NodeCase) → Awaits g root stack depth a rest →
+    Awaits g root stack' (depth + 1) d (cases_of (chip_of g) (limits_of g).wires (second_case (chip_of g) (limits_of g).wires c split) tree ++ rest)
+first_awaits {g} {root} stack {stack'} depth node {b} {d} c split {mark} from room is marked for case forked at more next tree rest h =
+    awaits_close g root stack' (depth + 1) depth d
     (cases_of (chip_of g) (limits_of g).wires (second_case (chip_of g) (limits_of g).wires c split) tree ++ rest) (omega arith)
-    (ap (λ l. turn_at l depth) is ∙ turn_same turns depth (first_turn mark node) room)
+    (ap (λ l. split_at l depth) is ∙ turn_same stack depth (first_turn mark node) room)
     (record {
       before = b;
       c = split_case (limits_of g).wires c split;
       split = split;
-      turn_is = record {
+      opened_is = record {
         mark = marked;
         room = for;
         case = case;
@@ -138,9 +138,9 @@ first_awaits {g} {root} turns {turns'} depth node {b} {d} c split {mark} from ro
         tree = tree;
         rest = rest;
         left_is = ap (λ e. cases_of (chip_of g) (limits_of g).wires e tree ++ rest) (second_is (chip_of g) (limits_of g).wires c split);
-        then = awaits_same g root turns turns' depth b rest
-            (λ k less. ap (λ l. turn_at l k) is ∙ turn_other turns depth k (first_turn mark node) less)
-            (awaits_further g root turns depth rest more h);
+        then = awaits_same g root stack stack' depth b rest
+            (λ k less. ap (λ l. split_at l k) is ∙ turn_other stack depth k (first_turn mark node) less)
+            (awaits_further g root stack depth rest more h);
       };
     })
 
@@ -158,28 +158,28 @@ module _ {g : Basis} {a b : CaseRoom} {c : Case} {rank width : ℕ} (for : IsRoo
   wide_room has more is now =
       room_next for has more is (wide_now_for now).case (with_rank_within (limits_of g).wires c rank)
 
-module _ {g : Basis} {root : CaseRoom} (turns : List OpenSplit) {turns' : List OpenSplit} (depth node : ℕ) {a : CaseRoom} where
-  pub wide_begun : {b d : CaseRoom} {c : Case} {rank width : ℕ} {mark : Mark} → IsFurther root a → IsCaseOf a c → IsRoomFor g a → depth < length turns →
-      turns' ≡ slice_set turns depth (first_turn mark node) → IsMark mark b → HasCase b → IsFurther a b → IsWideNow b a.widths.wires c rank width →
+module _ {g : Basis} {root : CaseRoom} (stack : List OpenSplit) {stack' : List OpenSplit} (depth node : ℕ) {a : CaseRoom} where
+  pub wide_begun : {b d : CaseRoom} {c : Case} {rank width : ℕ} {mark : Mark} → IsFurther root a → IsCaseOf a c → IsRoomFor g a → depth < length stack →
+      stack' ≡ slice_set stack depth (first_turn mark node) → IsMark mark b → HasCase b → IsFurther a b → IsWideNow b a.widths.wires c rank width →
       IsNodeAt g node (OfSplit (OfWide rank width)) → IsFurther b d → ((e : Case) → IsCaseOf b e → IsCaseOf d (narrow e rank width)) →
-      IsBegun g root turns turns' depth a d c (OfWide rank width)
+      IsBegun g root stack stack' depth a d c (OfWide rank width)
   wide_begun {b} {c} {rank} {width} from is for room turns_is marked has more now at next goes =
       let now' = wide_now_for for now in
       record {
         rule = now'.rule;
         first = goes (with_rank (limits_of g).wires c rank) now'.case;
-        awaits = first_awaits turns depth node c (OfWide rank width) from room turns_is marked (wide_room for has more is now) now'.case
+        awaits = first_awaits stack depth node c (OfWide rank width) from room turns_is marked (wide_room for has more is now) now'.case
             (wide_forked has now') at more next;
       }
 
   pub place_begun : {d : CaseRoom} {c : Case} {m rank : ℕ} {twins : List ℕ} {place : ℕ} {mark : Mark} → IsFurther root a → IsCaseOf a c → IsRoomFor g a →
-      depth < length turns → turns' ≡ slice_set turns depth (first_turn mark node) → IsMark mark a → IsPlaceAt (chip_of g) c m rank twins place →
+      depth < length stack → stack' ≡ slice_set stack depth (first_turn mark node) → IsMark mark a → IsPlaceAt (chip_of g) c m rank twins place →
       IsNodeAt g node (OfSplit (OfPlace m rank twins)) → IsFurther a d → ((e : Case) → IsCaseOf a e → IsCaseOf d (placed_on e rank place)) →
-      IsBegun g root turns turns' depth a d c (OfPlace m rank twins)
+      IsBegun g root stack stack' depth a d c (OfPlace m rank twins)
   place_begun {d} {c} {m} {rank} {twins} from is for room turns_is marked placed at next goes = record {
     rule = placed.rule;
     first = subst (λ o. IsCaseOf d (case_by c (placed_on c rank) o)) (sym placed.wired.there) (goes c is);
-    awaits = first_awaits turns depth node c (OfPlace m rank twins) from room turns_is marked for is (placed.rule.tam, placed.rule.known) at (further_none a) next;
+    awaits = first_awaits stack depth node c (OfPlace m rank twins) from room turns_is marked for is (placed.rule.tam, placed.rule.known) at (further_none a) next;
   }
 
 -- ---- a second branch begins
@@ -188,46 +188,46 @@ module _ {g : Basis} {root : CaseRoom} (turns : List OpenSplit) {turns' : List O
 one_node : (g : Basis) (place : ℕ) (m n : NodeValue) → IsNodeAt g place m → IsNodeAt g place n → m ≡ n
 one_node g place m n a b = cc
 
-module _ (g : Basis) (turn : OpenSplit) (c : Case) (split : SplitValue) (P : List NodeCase → Type 0) (left : List NodeCase) where
+module _ (g : Basis) (opened : OpenSplit) (c : Case) (split : SplitValue) (P : List NodeCase → Type 0) (left : List NodeCase) where
   -- the second branch, and what comes behind it
-  behind_first : turn.second ≡ false → MatchBool turn.second (P left) (IsLaterThen g c split P left) → IsLaterThen g c split P left
+  behind_first : opened.second ≡ false → MatchBool opened.second (P left) (IsLaterThen g c split P left) → IsLaterThen g c split P left
   behind_first first h = (rw first at h)
 
-  behind_second : turn.second ≡ true → MatchBool turn.second (P left) (IsLaterThen g c split P left) → P left
+  behind_second : opened.second ≡ true → MatchBool opened.second (P left) (IsLaterThen g c split P left) → P left
   behind_second second h = (rw second at h)
 
-module _ (g : Basis) (root : CaseRoom) (turns : List OpenSplit) where
+module _ (g : Basis) (root : CaseRoom) (stack : List OpenSplit) where
   -- a split of which both branches are over is left
-  pub awaits_second : (depth last : ℕ) (room : CaseRoom) (left : List NodeCase) → depth ≡ suc last → (turn_at turns last).second ≡ true →
-      Awaits g root turns depth room left → Awaits g root turns last room left
+  pub awaits_second : (depth last : ℕ) (room : CaseRoom) (left : List NodeCase) → depth ≡ suc last → (split_at stack last).second ≡ true →
+      Awaits g root stack depth room left → Awaits g root stack last room left
   awaits_second depth last room left is second h =
-      let x = awaits_open g root turns depth last room left is h in
-      awaits_further g root turns last left x.turn_is.further
-      (behind_second g (turn_at turns last) x.c x.split (Awaits g root turns last x.before) left second x.behind)
+      let x = awaits_open g root stack depth last room left is h in
+      awaits_further g root stack last left x.opened_is.further
+      (behind_second g (split_at stack last) x.c x.split (Awaits g root stack last x.before) left second x.behind)
 
   -- the second branch of the last split
-  pub second_goes : {turns' : List OpenSplit} (depth last : ℕ) (room new : CaseRoom) (left : List NodeCase) → depth ≡ suc last → last < length turns →
-      (turn_at turns last).second ≡ false → turns' ≡ slice_set turns last (record (turn_at turns last) { second = true }) →
-      ((before : CaseRoom) (c : Case) (split : SplitValue) → IsTurn g root room (turn_at turns last) before c split → IsSecond g before new c split) →
-      Awaits g root turns depth room left → Begins g root turns' depth new left
-  second_goes {turns'} depth last room new left is within first turns_is goes h =
-      let x = awaits_open g root turns depth last room left is h in
-      let s = goes x.before x.c x.split x.turn_is in
-      let l = behind_first g (turn_at turns last) x.c x.split (Awaits g root turns last x.before) left first x.behind in
-      let t = x.turn_is in
+  pub second_goes : {stack' : List OpenSplit} (depth last : ℕ) (room new : CaseRoom) (left : List NodeCase) → depth ≡ suc last → last < length stack →
+      (split_at stack last).second ≡ false → stack' ≡ slice_set stack last (record (split_at stack last) { second = true }) →
+      ((before : CaseRoom) (c : Case) (split : SplitValue) → IsOpenSplit g root room (split_at stack last) before c split → IsSecond g before new c split) →
+      Awaits g root stack depth room left → Begins g root stack' depth new left
+  second_goes {stack'} depth last room new left is within first turns_is goes h =
+      let x = awaits_open g root stack depth last room left is h in
+      let s = goes x.before x.c x.split x.opened_is in
+      let l = behind_first g (split_at stack last) x.c x.split (Awaits g root stack last x.before) left first x.behind in
+      let t = x.opened_is in
       record {
         c = branch_later (chip_of g) x.c x.split;
         case = s.case;
         tree = l.tree;
         rest = l.rest;
         left_is = l.left_is;
-        awaits = awaits_close g root turns' depth last new l.rest (sym is)
-            (ap (λ k. turn_at k last) turns_is ∙ turn_same turns last (record (turn_at turns last) { second = true }) within)
+        awaits = awaits_close g root stack' depth last new l.rest (sym is)
+            (ap (λ k. split_at k last) turns_is ∙ turn_same stack last (record (split_at stack last) { second = true }) within)
             (record {
               before = x.before;
               c = x.c;
               split = x.split;
-              turn_is = record {
+              opened_is = record {
                 mark = t.mark;
                 room = t.room;
                 case = t.case;
@@ -236,41 +236,41 @@ module _ (g : Basis) (root : CaseRoom) (turns : List OpenSplit) where
                 behind_root = t.behind_root;
                 further = s.further;
               };
-              behind = awaits_same g root turns turns' last x.before l.rest
-                  (λ k less. ap (λ m. turn_at m k) turns_is ∙ turn_other turns last k (record (turn_at turns last) { second = true }) less) l.then;
+              behind = awaits_same g root stack stack' last x.before l.rest
+                  (λ k less. ap (λ m. split_at m k) turns_is ∙ turn_other stack last k (record (split_at stack last) { second = true }) less) l.then;
             });
       }
 
   pub second_further : (depth last : ℕ) (room new : CaseRoom) (left : List NodeCase) → depth ≡ suc last →
-      ((before : CaseRoom) (c : Case) (split : SplitValue) → IsTurn g root room (turn_at turns last) before c split → IsSecond g before new c split) →
-      Awaits g root turns depth room left → IsFurther root new
+      ((before : CaseRoom) (c : Case) (split : SplitValue) → IsOpenSplit g root room (split_at stack last) before c split → IsSecond g before new c split) →
+      Awaits g root stack depth room left → IsFurther root new
   second_further depth last room new left is goes h =
-      let x = awaits_open g root turns depth last room left is h in
-      further_then x.turn_is.behind_root (goes x.before x.c x.split x.turn_is).further
+      let x = awaits_open g root stack depth last room left is h in
+      further_then x.opened_is.behind_root (goes x.before x.c x.split x.opened_is).further
 
   -- ---- the node that comes
 
   -- a node, and what follows it, where the nodes of a tree come
   record IsFront (depth : ℕ) (room : CaseRoom) (c : Case) (x : NodeCase) (left : List NodeCase) : Type 0 where
     within : x.within ≡ c
-    follows : Follows g root turns depth room c x.node left
+    follows : Follows g root stack depth room c x.node left
 
   front_from : (depth : ℕ) (room : CaseRoom) (c : Case) (x : NodeCase) (left rest : List NodeCase) (tree : CaseTree) →
-      x ∷ left ≡ cases_of (chip_of g) (limits_of g).wires c tree ++ rest → Awaits g root turns depth room rest → IsFront depth room (tightened (limits_of g).wires c) x left
+      x ∷ left ≡ cases_of (chip_of g) (limits_of g).wires c tree ++ rest → Awaits g root stack depth room rest → IsFront depth room (tightened (limits_of g).wires c) x left
   unfolding cases_of
   front_from depth room c x left rest (Leaf leaf) e h =
       let same : x ≡ in_case (tightened (limits_of g).wires c) (OfLeaf leaf) = cc in
       let tails : left ≡ rest = cc in
       record {
         within = ap (λ (n : NodeCase). n.within) same;
-        follows = subst (λ (n : NodeCase). Follows g root turns depth room (tightened (limits_of g).wires c) n.node left) (sym same)
-            (subst (λ l. Awaits g root turns depth room l) (sym tails) h);
+        follows = subst (λ (n : NodeCase). Follows g root stack depth room (tightened (limits_of g).wires c) n.node left) (sym same)
+            (subst (λ l. Awaits g root stack depth room l) (sym tails) h);
       }
   front_from depth room c x left rest (Branches split a b) e h =
       let same : x ≡ in_case (tightened (limits_of g).wires c) (OfSplit split) = cc in
       let tails : left ≡ (cases_of (chip_of g) (limits_of g).wires (first_case (chip_of g) (limits_of g).wires (tightened (limits_of g).wires c) split) a
       ++ cases_of (chip_of g) (limits_of g).wires (second_case (chip_of g) (limits_of g).wires (tightened (limits_of g).wires c) split) b) ++ rest = cc in
-      let fork : IsFork g root turns depth room (tightened (limits_of g).wires c) split left = record {
+      let fork : IsFork g root stack depth room (tightened (limits_of g).wires c) split left = record {
         first = a;
         second = b;
         rest = rest;
@@ -280,70 +280,70 @@ module _ (g : Basis) (root : CaseRoom) (turns : List OpenSplit) where
       } in
       record {
         within = ap (λ (n : NodeCase). n.within) same;
-        follows = subst (λ (n : NodeCase). Follows g root turns depth room (tightened (limits_of g).wires c) n.node left) (sym same) fork;
+        follows = subst (λ (n : NodeCase). Follows g root stack depth room (tightened (limits_of g).wires c) n.node left) (sym same) fork;
       }
 
-module _ {g : Basis} {root : CaseRoom} {turns : List OpenSplit} where
+module _ {g : Basis} {root : CaseRoom} {stack : List OpenSplit} where
   -- its case is tightened
   pub at_here : {depth : ℕ} {a b : CaseRoom} {place : ℕ} {x : NodeCase} {left : List NodeCase} → IsRoomFor g a → IsFurther a b →
-      ((c : Case) → IsCaseOf a c → IsCaseOf b (tightened a.widths.wires c)) → IsHere g root turns depth a place x left → IsAt g root turns depth b place x left
+      ((c : Case) → IsCaseOf a c → IsCaseOf b (tightened a.widths.wires c)) → IsHere g root stack depth a place x left → IsAt g root stack depth b place x left
   at_here {depth} {b} {x} {left} for more goes here =
       let begins = here.begins in
       let case = subst (λ w. IsCaseOf b (tightened w begins.c)) for.of.wires (goes begins.c begins.case) in
       let front =
-      front_from g root turns depth b begins.c x left begins.rest begins.tree begins.left_is (awaits_further g root turns depth begins.rest more begins.awaits) in
+      front_from g root stack depth b begins.c x left begins.rest begins.tree begins.left_is (awaits_further g root stack depth begins.rest more begins.awaits) in
       record {
         node = here.node;
         case = subst (IsCaseOf b) (sym front.within) case;
         further = further_then here.further more;
-        follows = subst (λ c. Follows g root turns depth b c x.node left) (sym front.within) front.follows;
+        follows = subst (λ c. Follows g root stack depth b c x.node left) (sym front.within) front.follows;
       }
 
-  pub split_goes : {turns' : List OpenSplit} (depth next : ℕ) {a d : CaseRoom} {place : ℕ} {x : NodeCase} {left : List NodeCase} {split : SplitValue} →
-      IsNodeAt g place (OfSplit split) → next ≡ depth + 1 → IsAt g root turns depth a place x left → IsBegun g root turns turns' depth a d x.within split →
-      GoesOn g root turns' next d left
-  split_goes {turns'} depth next {a} {d} {place} {x} {left} {split} node is at begun =
-      let fork = subst (λ n. Follows g root turns depth a x.within n left) (one_node g place x.node (OfSplit split) at.node node) at.follows in
+  pub split_goes : {stack' : List OpenSplit} (depth next : ℕ) {a d : CaseRoom} {place : ℕ} {x : NodeCase} {left : List NodeCase} {split : SplitValue} →
+      IsNodeAt g place (OfSplit split) → next ≡ depth + 1 → IsAt g root stack depth a place x left → IsBegun g root stack stack' depth a d x.within split →
+      GoesOn g root stack' next d left
+  split_goes {stack'} depth next {a} {d} {place} {x} {left} {split} node is at begun =
+      let fork = subst (λ n. Follows g root stack depth a x.within n left) (one_node g place x.node (OfSplit split) at.node node) at.follows in
       inr (record {
         c = first_case (chip_of g) (limits_of g).wires x.within split;
         case = begun.first;
         tree = fork.first;
         rest = cases_of (chip_of g) (limits_of g).wires (second_case (chip_of g) (limits_of g).wires x.within split) fork.second ++ fork.rest;
         left_is = fork.left_is;
-        awaits = subst (λ n. Awaits g root turns' n d (cases_of (chip_of g) (limits_of g).wires (second_case (chip_of g) (limits_of g).wires x.within split) fork.second ++ fork.rest))
+        awaits = subst (λ n. Awaits g root stack' n d (cases_of (chip_of g) (limits_of g).wires (second_case (chip_of g) (limits_of g).wires x.within split) fork.second ++ fork.rest))
             (sym is) (begun.awaits fork.second fork.rest fork.awaits);
       })
 
   pub leaf_awaits : {depth : ℕ} {a : CaseRoom} {place : ℕ} {x : NodeCase} {left : List NodeCase} (leaf : LeafValue) → IsNodeAt g place (OfLeaf leaf) →
-      IsAt g root turns depth a place x left → Awaits g root turns depth a left
+      IsAt g root stack depth a place x left → Awaits g root stack depth a left
   leaf_awaits {depth} {a} {place} {x} {left} leaf node at =
-      subst (λ n. Follows g root turns depth a x.within n left) (one_node g place x.node (OfLeaf leaf) at.node node) at.follows
+      subst (λ n. Follows g root stack depth a x.within n left) (one_node g place x.node (OfLeaf leaf) at.node node) at.follows
 
 -- ---- what is answered of it
 
 node_is : (x : NodeCase) {n : NodeValue} → x.node ≡ n → in_case x.within n ≡ x
 node_is x e = ap (in_case x.within) (sym e)
 
-module _ {g : Basis} {root : CaseRoom} {turns : List OpenSplit} {depth : ℕ} where
+module _ {g : Basis} {root : CaseRoom} {stack : List OpenSplit} {depth : ℕ} where
   pub split_judged : (next done : ℕ) {a : CaseRoom} {place : ℕ} {x : NodeCase} {left : List NodeCase} (split : SplitValue) → IsNodeAt g place (OfSplit split) →
-      IsAt g root turns depth a place x left → KeepsSplit (chip_of g) (limits_of g).wires x.within split → IsJudged {X = ℕ} g done place x (Ok next)
+      IsAt g root stack depth a place x left → KeepsSplit (chip_of g) (limits_of g).wires x.within split → IsJudged {X = ℕ} g done place x (Ok next)
   split_judged next done {place} {x} split node at rule =
       let enough : IsEnoughFor g done (in_case x.within (OfSplit split)) = record { rule = rule; holds = tt } in
       subst (IsEnoughFor g done) (node_is x (one_node g place x.node (OfSplit split) at.node node)) enough
 
   -- a split has no work
   pub split_work : (done : ℕ) {a : CaseRoom} {place : ℕ} {x : NodeCase} {left : List NodeCase} (split : SplitValue) → IsNodeAt g place (OfSplit split) →
-      IsAt g root turns depth a place x left → done ≡ done + node_work g x
+      IsAt g root stack depth a place x left → done ≡ done + node_work g x
   split_work done {place} {x} split node at =
       subst (λ n. done ≡ done + node_work g n) (node_is x (one_node g place x.node (OfSplit split) at.node node)) (omega arith)
 
   pub leaf_enough : (next done : ℕ) {a : CaseRoom} {place : ℕ} {x : NodeCase} {left : List NodeCase} (leaf : LeafValue) → IsNodeAt g place (OfLeaf leaf) →
-      IsAt g root turns depth a place x left → IsJudged {X = Unit {0}} g done place (in_case x.within (OfLeaf leaf)) (Ok tt) → IsJudged {X = ℕ} g done place x (Ok next)
+      IsAt g root stack depth a place x left → IsJudged {X = Unit {0}} g done place (in_case x.within (OfLeaf leaf)) (Ok tt) → IsJudged {X = ℕ} g done place x (Ok next)
   leaf_enough next done {place} {x} leaf node at judged =
       subst (IsEnoughFor g done) (node_is x (one_node g place x.node (OfLeaf leaf) at.node node)) judged
 
   pub leaf_work : (done : ℕ) {next : ℕ} {a : CaseRoom} {place : ℕ} {x : NodeCase} {left : List NodeCase} (leaf : LeafValue) → IsNodeAt g place (OfLeaf leaf) →
-      IsAt g root turns depth a place x left → next ≡ done + node_work g (in_case x.within (OfLeaf leaf)) → next ≡ done + node_work g x
+      IsAt g root stack depth a place x left → next ≡ done + node_work g (in_case x.within (OfLeaf leaf)) → next ≡ done + node_work g x
   leaf_work done {next} {place} {x} leaf node at work =
       subst (λ n. next ≡ done + node_work g n) (node_is x (one_node g place x.node (OfLeaf leaf) at.node node)) work
 
@@ -362,41 +362,41 @@ module _ (g : Basis) where
   pub cases_long : (t : CaseTree) → nodes_of t ≡ (proof_of g).nodes → length (all_cases (chip_of g) (limits_of g) t) ≡ length (proof_of g).nodes
   cases_long t same = sym (length-map (all_cases (chip_of g) (limits_of g) t) (λ (n : NodeCase). n.node)) ∙ ap length (cases_nodes (chip_of g) (limits_of g).wires root_case t ∙ same)
 
-  pub starts : (turns : List OpenSplit) {room : CaseRoom} (t : CaseTree) → IsCaseOf room root_case → GoesOn g room turns 0 room (all_cases (chip_of g) (limits_of g) t)
-  starts turns {room} t is = inr (record {
+  pub starts : (stack : List OpenSplit) {room : CaseRoom} (t : CaseTree) → IsCaseOf room root_case → GoesOn g room stack 0 room (all_cases (chip_of g) (limits_of g) t)
+  starts stack {room} t is = inr (record {
     c = root_case;
     case = is;
     tree = t;
     rest = [];
     left_is = sym (append-nil (all_cases (chip_of g) (limits_of g) t));
-    awaits = awaits_start g room turns room;
+    awaits = awaits_start g room stack room;
   })
 
   -- the node at a place, where the nodes from it on are left
-  pub record IsNext (root : CaseRoom) (turns : List OpenSplit) (depth : ℕ) (room : CaseRoom) (place : ℕ) (cases : List NodeCase) : Type 0 where
+  pub record IsNext (root : CaseRoom) (stack : List OpenSplit) (depth : ℕ) (room : CaseRoom) (place : ℕ) (cases : List NodeCase) : Type 0 where
     pub x : NodeCase
     pub there : slice_get cases place ≡ Some x
-    pub here : IsHere g root turns depth room place x (drop (suc place) cases)
+    pub here : IsHere g root stack depth room place x (drop (suc place) cases)
 
-  pub next_is : {root : CaseRoom} {turns : List OpenSplit} {depth : ℕ} {room : CaseRoom} (place : ℕ) (t : CaseTree) → nodes_of t ≡ (proof_of g).nodes →
-      place < length (proof_of g).nodes → IsFurther root room → GoesOn g root turns depth room (drop place (all_cases (chip_of g) (limits_of g) t)) →
-      IsNext root turns depth room place (all_cases (chip_of g) (limits_of g) t)
-  next_is {root} {turns} {depth} {room} place t same within further goes =
+  pub next_is : {root : CaseRoom} {stack : List OpenSplit} {depth : ℕ} {room : CaseRoom} (place : ℕ) (t : CaseTree) → nodes_of t ≡ (proof_of g).nodes →
+      place < length (proof_of g).nodes → IsFurther root room → GoesOn g root stack depth room (drop place (all_cases (chip_of g) (limits_of g) t)) →
+      IsNext root stack depth room place (all_cases (chip_of g) (limits_of g) t)
+  next_is {root} {stack} {depth} {room} place t same within further goes =
       go (all_cases (chip_of g) (limits_of g) t) (cases_nodes (chip_of g) (limits_of g).wires root_case t ∙ same) (omega (arith, within, cases_long t same)) goes
     where
-      by : (cases : List NodeCase) (x : NodeCase) → slice_get cases place ≡ Some x → IsNodeAt g place x.node → (x ∷ drop (suc place) cases ≡ []) ⊎ Begins g root turns depth room (x ∷ drop (suc place) cases) →
-          IsNext root turns depth room place cases
+      by : (cases : List NodeCase) (x : NodeCase) → slice_get cases place ≡ Some x → IsNodeAt g place x.node → (x ∷ drop (suc place) cases ≡ []) ⊎ Begins g root stack depth room (x ∷ drop (suc place) cases) →
+          IsNext root stack depth room place cases
       by cases x there node (inl none) = absurd cc
       by cases x there node (inr begins) = record { x = x; there = there; here = record { node = node; further = further; begins = begins } }
 
-      go : (cases : List NodeCase) → map (λ (n : NodeCase). n.node) cases ≡ (proof_of g).nodes → place < length cases → GoesOn g root turns depth room (drop place cases) →
-          IsNext root turns depth room place cases
+      go : (cases : List NodeCase) → map (λ (n : NodeCase). n.node) cases ≡ (proof_of g).nodes → place < length cases → GoesOn g root stack depth room (drop place cases) →
+          IsNext root stack depth room place cases
       go cases nodes less at =
           let there = slice_get-get_or cases place (in_case root_case (OfSplit (OfWide 0 0))) less in
           let split = drop-cons cases place (in_case root_case (OfSplit (OfWide 0 0))) less in
           let node =
           ap (λ l. slice_get l place) (sym nodes) ∙ slice_get-map (λ (n : NodeCase). n.node) cases place ∙ ap (option_map (λ (n : NodeCase). n.node)) there in
-          by cases (get_or cases place (in_case root_case (OfSplit (OfWide 0 0)))) there node (subst (GoesOn g root turns depth room) split at)
+          by cases (get_or cases place (in_case root_case (OfSplit (OfWide 0 0)))) there node (subst (GoesOn g root stack depth room) split at)
 
 module _ (g : Basis) (cases : List NodeCase) where
   -- the work of the nodes before a place

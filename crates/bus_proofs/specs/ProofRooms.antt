@@ -19,11 +19,11 @@ pub record RoomValue : Type 0 where
   pub limits : LimitsValue
   pub proof : ProofValue
 
--- the room has the case of the root, and space for each leaf of a proof that a text may say, and for a turn at each node
-pub record IsProofRoom (basis : Basis) (case : CaseRoom) (leaf : LeafRoom) (turns : List OpenSplit) : Type 0 where
+-- the room has the case of the root, and space for each leaf of a proof that a text may say, and for an open split at each node
+pub record IsProofRoom (basis : Basis) (case : CaseRoom) (leaf : LeafRoom) (stack : List OpenSplit) : Type 0 where
   pub basis_is : IsBasis basis
   pub said : MayBeSaid (proof_of basis)
   pub room : IsRoomFor basis case
   pub root : IsCaseOf case root_case
   pub leaves : FitsLeaves basis leaf
-  pub turns_fit : length (proof_of basis).nodes ≤ length turns
+  pub stack_fits : length (proof_of basis).nodes ≤ length stack

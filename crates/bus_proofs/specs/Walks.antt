@@ -70,13 +70,13 @@ pub record IsPlaceAt (soc : SocValue) (c : Case) (m rank : ℕ) (twins : List �
   pub rule : IsPlace soc c m rank twins
   pub wired : IsWiredAt soc m place
 
--- ---- turns
+-- ---- open splits
 
-abbrev pub no_turn : OpenSplit
-no_turn = record { mark = record { changes = 0; takings = 0; places = 0 }; node = 0; second = false }
+abbrev pub no_split : OpenSplit
+no_split = record { mark = record { changes = 0; takings = 0; places = 0 }; node = 0; second = false }
 
-abbrev pub turn_at : List OpenSplit → ℕ → OpenSplit
-turn_at turns n = slice_index_or turns n no_turn
+abbrev pub split_at : List OpenSplit → ℕ → OpenSplit
+split_at stack n = slice_index_or stack n no_split
 
 -- the case that both branches of a split are made of
 abbrev pub split_case : (w : ℕ) → Case → SplitValue → Case
@@ -94,12 +94,13 @@ IsForked soc c (OfWide rank width) = (rank < known_ranks c) × (width < 256)
 IsForked soc c (OfPlace m rank twins) = HasTamTest soc m × All (λ r. r < known_ranks c) (rank ∷ twins)
 
 -- A split of the proof, of which a branch is under way: the room before its branches, what was noted there, and the case there.
-pub record IsTurn (g : Basis) (root now : CaseRoom) (turn : OpenSplit) (before : CaseRoom) (c : Case) (split : SplitValue) : Type 0 where
-  pub mark : IsMark turn.mark before
+pub record IsOpenSplit (g : Basis) (root now : CaseRoom) (opened : OpenSplit) (before : CaseRoom) (c : Case)
+    (split : SplitValue) : Type 0 where
+  pub mark : IsMark opened.mark before
   pub room : IsRoomFor g before
   pub case : IsCaseOf before c
   pub forked : IsForked (chip_of g) c split
-  pub node : IsNodeAt g turn.node (OfSplit split)
+  pub node : IsNodeAt g opened.node (OfSplit split)
   pub behind_root : IsFurther root before
   pub further : IsFurther before now
 
@@ -110,73 +111,73 @@ pub record IsLaterThen (g : Basis) (c : Case) (split : SplitValue) (Rest : List 
   pub left_is : left ≡ cases_of (chip_of g) (limits_of g).wires (branch_later (chip_of g) c split) tree ++ rest
   pub then : Rest rest
 
--- Behind a turn the nodes `left` are to come, where `Rest` says which come behind the split: behind its first branch its second
+-- Behind an open split the nodes `left` are to come, where `Rest` says which come behind the split: behind its first branch its second
 -- one and then those, behind its second branch those alone.
-pub record IsWithin (g : Basis) (root : CaseRoom) (turn : OpenSplit) (Rest : CaseRoom → List NodeCase → Type 0) (room : CaseRoom)
+pub record IsWithin (g : Basis) (root : CaseRoom) (opened : OpenSplit) (Rest : CaseRoom → List NodeCase → Type 0) (room : CaseRoom)
     (left : List NodeCase) : Type 0 where
   pub before : CaseRoom
   pub c : Case
   pub split : SplitValue
-  pub turn_is : IsTurn g root room turn before c split
-  pub behind : MatchBool turn.second (Rest before left) (IsLaterThen g c split (Rest before) left)
+  pub opened_is : IsOpenSplit g root room opened before c split
+  pub behind : MatchBool opened.second (Rest before left) (IsLaterThen g c split (Rest before) left)
 
 -- behind a tree in the case of the room, within `depth` splits, the nodes `left` are to come
 unfoldable pub Awaits : Basis → (root : CaseRoom) → List OpenSplit → (depth : ℕ) → CaseRoom → List NodeCase → Type 0
-Awaits g root turns zero room left = left ≡ []
-Awaits g root turns (suc depth) room left = IsWithin g root (turn_at turns depth) (Awaits g root turns depth) room left
+Awaits g root stack zero room left = left ≡ []
+Awaits g root stack (suc depth) room left = IsWithin g root (split_at stack depth) (Awaits g root stack depth) room left
 
 -- the nodes that are left begin with those of a tree in the case of the room
-pub record Begins (g : Basis) (root : CaseRoom) (turns : List OpenSplit) (depth : ℕ) (room : CaseRoom) (left : List NodeCase) : Type 0 where
+pub record Begins (g : Basis) (root : CaseRoom) (stack : List OpenSplit) (depth : ℕ) (room : CaseRoom) (left : List NodeCase) : Type 0 where
   pub c : Case
   pub case : IsCaseOf room c
   pub tree : CaseTree
   pub rest : List NodeCase
   pub left_is : left ≡ cases_of (chip_of g) (limits_of g).wires c tree ++ rest
-  pub awaits : Awaits g root turns depth room rest
+  pub awaits : Awaits g root stack depth room rest
 
 -- they do, or none is left
 abbrev pub GoesOn : Basis → (root : CaseRoom) → List OpenSplit → (depth : ℕ) → CaseRoom → List NodeCase → Type 0
-GoesOn g root turns depth room left = (left ≡ []) ⊎ Begins g root turns depth room left
+GoesOn g root stack depth room left = (left ≡ []) ⊎ Begins g root stack depth room left
 
 -- ---- a node
 
 -- the node at the place comes, and then the nodes `left`
-pub record IsHere (g : Basis) (root : CaseRoom) (turns : List OpenSplit) (depth : ℕ) (room : CaseRoom) (place : ℕ) (x : NodeCase)
+pub record IsHere (g : Basis) (root : CaseRoom) (stack : List OpenSplit) (depth : ℕ) (room : CaseRoom) (place : ℕ) (x : NodeCase)
     (left : List NodeCase) : Type 0 where
   pub node : IsNodeAt g place x.node
   pub further : IsFurther root room
-  pub begins : Begins g root turns depth room (x ∷ left)
+  pub begins : Begins g root stack depth room (x ∷ left)
 
 -- both branches of a split are left, and then what awaits behind them
-pub record IsFork (g : Basis) (root : CaseRoom) (turns : List OpenSplit) (depth : ℕ) (room : CaseRoom) (c : Case) (split : SplitValue)
+pub record IsFork (g : Basis) (root : CaseRoom) (stack : List OpenSplit) (depth : ℕ) (room : CaseRoom) (c : Case) (split : SplitValue)
     (left : List NodeCase) : Type 0 where
   pub first : CaseTree
   pub second : CaseTree
   pub rest : List NodeCase
   pub left_is : left ≡ cases_of (chip_of g) (limits_of g).wires (first_case (chip_of g) (limits_of g).wires c split) first
       ++ (cases_of (chip_of g) (limits_of g).wires (second_case (chip_of g) (limits_of g).wires c split) second ++ rest)
-  pub awaits : Awaits g root turns depth room rest
+  pub awaits : Awaits g root stack depth room rest
 
 -- what is left behind a node
 abbrev pub Follows : Basis → (root : CaseRoom) → List OpenSplit → (depth : ℕ) → CaseRoom → Case → NodeValue → List NodeCase → Type 0
-Follows g root turns depth room c (OfSplit split) left = IsFork g root turns depth room c split left
-Follows g root turns depth room c (OfLeaf leaf) left = Awaits g root turns depth room left
+Follows g root stack depth room c (OfSplit split) left = IsFork g root stack depth room c split left
+Follows g root stack depth room c (OfLeaf leaf) left = Awaits g root stack depth room left
 
 -- the room has the case of the node at the place, tightened, and then the nodes `left` come
-pub record IsAt (g : Basis) (root : CaseRoom) (turns : List OpenSplit) (depth : ℕ) (room : CaseRoom) (place : ℕ) (x : NodeCase)
+pub record IsAt (g : Basis) (root : CaseRoom) (stack : List OpenSplit) (depth : ℕ) (room : CaseRoom) (place : ℕ) (x : NodeCase)
     (left : List NodeCase) : Type 0 where
   pub node : IsNodeAt g place x.node
   pub case : IsCaseOf room x.within
   pub further : IsFurther root room
-  pub follows : Follows g root turns depth room x.within x.node left
+  pub follows : Follows g root stack depth room x.within x.node left
 
 -- the first branch of a split that keeps its rule has begun, in the room `new`
-pub record IsBegun (g : Basis) (root : CaseRoom) (turns turns' : List OpenSplit) (depth : ℕ) (old new : CaseRoom) (c : Case)
+pub record IsBegun (g : Basis) (root : CaseRoom) (stack stack' : List OpenSplit) (depth : ℕ) (old new : CaseRoom) (c : Case)
     (split : SplitValue) : Type 0 where
   pub rule : KeepsSplit (chip_of g) (limits_of g).wires c split
   pub first : IsCaseOf new (first_case (chip_of g) (limits_of g).wires c split)
-  pub awaits : (tree : CaseTree) (rest : List NodeCase) → Awaits g root turns depth old rest →
-      Awaits g root turns' (depth + 1) new (cases_of (chip_of g) (limits_of g).wires
+  pub awaits : (tree : CaseTree) (rest : List NodeCase) → Awaits g root stack depth old rest →
+      Awaits g root stack' (depth + 1) new (cases_of (chip_of g) (limits_of g).wires
       (second_case (chip_of g) (limits_of g).wires c split) tree ++ rest)
 
 -- the room `new` has the case of the second branch of a split, from the room before its branches

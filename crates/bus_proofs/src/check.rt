@@ -34,7 +34,7 @@ pub struct ProofRoom<'a> {
     case: CaseRoom,
     leaf: LeafRoom,
     /// The splits that are under way.
-    turns: Vec<OpenSplit>,
+    stack: Vec<OpenSplit>,
 }
 
 impl<'a> Model for ProofRoom<'a> {
@@ -46,10 +46,10 @@ impl<'a> Model for ProofRoom<'a> {
     ghost view = { λ r. record
         { chip = chip_of r.basis; limits = limits_of r.basis; proof = proof_of r.basis } };
 
-    ghost invariant = { λ r. IsProofRoom r.basis r.case r.leaf r.turns.items };
+    ghost invariant = { λ r. IsProofRoom r.basis r.case r.leaf r.stack.items };
 }
 
-const NO_TURN: OpenSplit = OpenSplit {
+const NO_SPLIT: OpenSplit = OpenSplit {
     mark: Mark {
         changes: 0,
         takings: 0,
@@ -83,7 +83,7 @@ fn most_uses(nodes: &[Node]) -> usize
 }
 
 impl<'a> ProofRoom<'a> {
-    /// Room for checking this proof over this chip under these limits. `NoMemory` where there is none, or where a leaf names
+    /// Room for checking this proof over this chip under these limits. `NoMemory` where memory runs out, or where a leaf names
     /// more than 16,777,216 lists or modules, as no text of the greatest length does.
     pub fn new(
         alloc: Global,
@@ -147,12 +147,12 @@ impl<'a> ProofRoom<'a> {
         let basis = Basis::new(alloc, soc, limits, resolved, proof)?;
         let case = CaseRoom::new(alloc, soc.modules.len(), limits.wires, RANKS_MOST)?;
         let leaf = LeafRoom::new(alloc, &basis, uses)?;
-        let turns = Vec::from_elem(alloc, NO_TURN, proof.nodes.len())?;
+        let stack = Vec::from_elem(alloc, NO_SPLIT, proof.nodes.len())?;
         Ok(ProofRoom {
             basis,
             case,
             leaf,
-            turns,
+            stack,
         })
     }
 }
@@ -170,14 +170,14 @@ fn check_in(
     basis: &Basis<'_>,
     case: &mut CaseRoom,
     leaf: &mut LeafRoom,
-    turns: &mut [OpenSplit],
+    stack: &mut [OpenSplit],
 ) -> Result<(), ProofFault>
-    requires room { IsProofRoom basis.now case.old leaf.old turns.old }
+    requires room { IsProofRoom basis.now case.old leaf.old stack.old }
     ensures accepted { OnOk result
         (IsAccepted (chip_of basis.now) (limits_of basis.now) (proof_of basis.now)) }
     ensures fault { IfErr result
         (IsProofFault (chip_of basis.now) (limits_of basis.now) (proof_of basis.now)) }
-    ensures room { IsProofRoom basis.now case.new leaf.new turns.new }
+    ensures room { IsProofRoom basis.now case.new leaf.new stack.new }
 {
     if basis.lists.kept < basis.proof.lists.len() {
         return Err(ProofFault::BadList {
@@ -186,7 +186,7 @@ fn check_in(
     }
     let root = case.mark();
     begin_work(leaf);
-    let checked = check_nodes(basis, case, leaf, turns);
+    let checked = check_nodes(basis, case, leaf, stack);
     case.undo(root);
     checked
 }
@@ -205,5 +205,5 @@ pub fn check_proof(room: &mut ProofRoom<'_>) -> Result<(), ProofFault>
 {
     accepted_proofs_are_bounds();
     accepted_proofs_have_no_fault();
-    check_in(&room.basis, &mut room.case, &mut room.leaf, &mut room.turns)
+    check_in(&room.basis, &mut room.case, &mut room.leaf, &mut room.stack)
 }

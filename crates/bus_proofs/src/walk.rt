@@ -11,7 +11,7 @@ ghost use Rattle.bus_proofs.specs.Bounds.{all_cases};
 ghost use Rattle.leaf_bounds.specs.CaseRooms.{IsCaseOf, IsFurther};
 ghost use Rattle.leaf_bounds.specs.Bases.{IsBasis, AllKept, chip_of, limits_of, claim_of, proof_of};
 ghost use Rattle.leaf_bounds.specs.LeafAnswers.{IsLeafAnswer};
-ghost use Rattle.bus_proofs.specs.Walks.{Awaits, FitsLeaves, GoesOn, IsAt, IsBegun, IsChecked, IsForked, IsHere, IsJudged, IsNodeAt, IsRoomFor, IsSecond, IsTurn, branch_later, node_work, turn_at};
+ghost use Rattle.bus_proofs.specs.Walks.{Awaits, FitsLeaves, GoesOn, IsAt, IsBegun, IsChecked, IsForked, IsHere, IsJudged, IsNodeAt, IsRoomFor, IsSecond, IsOpenSplit, branch_later, node_work, split_at};
 
 use crate::ProofFault;
 use crate::nodes::{is_wide, placed};
@@ -48,12 +48,12 @@ fn node_at(proof: &Proof, place: usize) -> &Node
 }
 
 /// Notes a split whose first branch begins.
-fn note_turn(turns: &mut [OpenSplit], at: WalkSpot, mark: Mark)
-    requires { at.depth < length turns.old }
-    ensures { turns.new
-        ≡ slice_set turns.old at.depth (record { mark = mark; node = at.node; second = false }) }
+fn note_split(stack: &mut [OpenSplit], at: WalkSpot, mark: Mark)
+    requires { at.depth < length stack.old }
+    ensures { stack.new
+        ≡ slice_set stack.old at.depth (record { mark = mark; node = at.node; second = false }) }
 {
-    turns[at.depth] = OpenSplit {
+    stack[at.depth] = OpenSplit {
         mark,
         node: at.node,
         second: false,
@@ -65,19 +65,19 @@ fn begin_wide(
     basis: &Basis<'_>,
     at: WalkSpot,
     case: &mut CaseRoom,
-    turns: &mut [OpenSplit],
+    stack: &mut [OpenSplit],
     rank: u64,
     width: u64,
 ) -> bool
     requires room { IsRoomFor basis.now case.old }
     requires known { (c : Case) × IsCaseOf case.old c }
     requires node { IsNodeAt basis.now at.node (OfSplit (OfWide rank width)) }
-    requires depth { at.depth < length turns.old }
+    requires depth { at.depth < length stack.old }
     ensures further { IsFurther case.old case.new }
     ensures room { result ≡ true → IsRoomFor basis.now case.new }
     ensures begun { result ≡ true → (root : CaseRoom) (c : Case) → IsFurther root case.old →
         IsCaseOf case.old c →
-        IsBegun basis.now root turns.old turns.new at.depth case.old case.new c
+        IsBegun basis.now root stack.old stack.new at.depth case.old case.new c
         (OfWide rank width) }
     ensures broken { result ≡ false → (c : Case) → IsCaseOf case.old c →
         IsWide (limits_of basis.now).wires c rank width → ⊥ }
@@ -86,7 +86,7 @@ fn begin_wide(
         return false;
     }
     let mark = case.mark();
-    note_turn(turns, at, mark);
+    note_split(stack, at, mark);
     case.narrow(rank as usize, width);
     true
 }
@@ -96,7 +96,7 @@ fn begin_place(
     basis: &Basis<'_>,
     at: WalkSpot,
     case: &mut CaseRoom,
-    turns: &mut [OpenSplit],
+    stack: &mut [OpenSplit],
     number: u64,
     rank: u64,
     twins: &[u64],
@@ -105,12 +105,12 @@ fn begin_place(
     requires room { IsRoomFor basis.now case.old }
     requires known { (c : Case) × IsCaseOf case.old c }
     requires node { IsNodeAt basis.now at.node (OfSplit (OfPlace number rank twins.now)) }
-    requires depth { at.depth < length turns.old }
+    requires depth { at.depth < length stack.old }
     ensures further { IsFurther case.old case.new }
     ensures room { result ≡ true → IsRoomFor basis.now case.new }
     ensures begun { result ≡ true → (root : CaseRoom) (c : Case) → IsFurther root case.old →
         IsCaseOf case.old c →
-        IsBegun basis.now root turns.old turns.new at.depth case.old case.new c
+        IsBegun basis.now root stack.old stack.new at.depth case.old case.new c
         (OfPlace number rank twins.now) }
     ensures broken { result ≡ false → (c : Case) → IsCaseOf case.old c →
         IsPlace (chip_of basis.now) c number rank twins.now → ⊥ }
@@ -118,7 +118,7 @@ fn begin_place(
     match placed(basis, case, number, rank, twins) {
         Some(place) => {
             let mark = case.mark();
-            note_turn(turns, at, mark);
+            note_split(stack, at, mark);
             case.place_on(place, rank as usize);
             true
         }
@@ -167,22 +167,22 @@ fn take_second(basis: &Basis<'_>, case: &mut CaseRoom, node: &Node)
 }
 
 /// Begins the second branch of the last split that is under way.
-fn begin_second(basis: &Basis<'_>, case: &mut CaseRoom, turns: &mut [OpenSplit], last: usize)
+fn begin_second(basis: &Basis<'_>, case: &mut CaseRoom, stack: &mut [OpenSplit], last: usize)
     requires basis { IsBasis basis.now }
-    requires room { last < length turns.old }
-    requires turn { (root : CaseRoom) × (before : CaseRoom) × (c : Case) × (split : SplitValue) ×
-        IsTurn basis.now root case.old (turn_at turns.old last) before c split }
-    ensures turns { turns.new
-        ≡ slice_set turns.old last (record (turn_at turns.old last) { second = true }) }
+    requires room { last < length stack.old }
+    requires opened { (root : CaseRoom) × (before : CaseRoom) × (c : Case) × (split : SplitValue) ×
+        IsOpenSplit basis.now root case.old (split_at stack.old last) before c split }
+    ensures stack { stack.new
+        ≡ slice_set stack.old last (record (split_at stack.old last) { second = true }) }
     ensures room { IsRoomFor basis.now case.new }
     ensures second { (root before : CaseRoom) (c : Case) (split : SplitValue) →
-        IsTurn basis.now root case.old (turn_at turns.old last) before c split →
+        IsOpenSplit basis.now root case.old (split_at stack.old last) before c split →
         IsSecond basis.now before case.new c split }
 {
-    let turn = turns[last];
-    turns[last].second = true;
-    case.undo(turn.mark);
-    take_second(basis, case, node_at(basis.proof, turn.node));
+    let opened = stack[last];
+    stack[last].second = true;
+    case.undo(opened.mark);
+    take_second(basis, case, node_at(basis.proof, opened.node));
 }
 
 /// After a leaf: leaves the splits of which both branches are over, and begins the second branch of the one before them. The
@@ -190,27 +190,27 @@ fn begin_second(basis: &Basis<'_>, case: &mut CaseRoom, turns: &mut [OpenSplit],
 fn next_branch(
     basis: &Basis<'_>,
     case: &mut CaseRoom,
-    turns: &mut [OpenSplit],
+    stack: &mut [OpenSplit],
     under_way: usize,
 ) -> usize
     requires basis { IsBasis basis.now }
     requires room { IsRoomFor basis.now case.old }
-    requires turns { under_way ≤ length turns.old }
+    requires stack { under_way ≤ length stack.old }
     requires awaits { (root : CaseRoom) × (left : List NodeCase) × IsFurther root case.old ×
-        Awaits basis.now root turns.old under_way case.old left }
+        Awaits basis.now root stack.old under_way case.old left }
     ensures room { IsRoomFor basis.now case.new }
     ensures few { result ≤ under_way }
     ensures further { (root : CaseRoom) (left : List NodeCase) → IsFurther root case.old →
-        Awaits basis.now root turns.old under_way case.old left →
+        Awaits basis.now root stack.old under_way case.old left →
         IsFurther root case.new }
     ensures goes_on { (root : CaseRoom) (left : List NodeCase) → IsFurther root case.old →
-        Awaits basis.now root turns.old under_way case.old left →
-        GoesOn basis.now root turns.new result case.new left }
+        Awaits basis.now root stack.old under_way case.old left →
+        GoesOn basis.now root stack.new result case.new left }
 {
     let mut depth = under_way;
     while depth > 0 {
-        if !turns[depth - 1].second {
-            begin_second(basis, case, turns, depth - 1);
+        if !stack[depth - 1].second {
+            begin_second(basis, case, stack, depth - 1);
             return depth;
         }
         depth -= 1;
@@ -294,35 +294,35 @@ fn go_on(
     at: WalkSpot,
     case: &mut CaseRoom,
     leaf: &mut LeafRoom,
-    turns: &mut [OpenSplit],
+    stack: &mut [OpenSplit],
 ) -> Result<usize, ProofFault>
     requires basis { IsBasis basis.now }
     requires kept { AllKept basis.now }
     requires said { MayBeSaid (proof_of basis.now) }
     requires room { IsRoomFor basis.now case.old }
     requires leaves { FitsLeaves basis.now leaf.old }
-    requires depth { at.depth < length turns.old }
+    requires depth { at.depth < length stack.old }
     requires at { (root : CaseRoom) × (x : NodeCase) × (left : List NodeCase) ×
-        IsAt basis.now root turns.old at.depth case.old at.node x left }
+        IsAt basis.now root stack.old at.depth case.old at.node x left }
     ensures leaves { FitsLeaves basis.now leaf.new }
     ensures room { IfOk result (λ next. IsRoomFor basis.now case.new) }
     ensures few { IfOk result (λ next. next ≤ at.depth + 1) }
     ensures further { (root : CaseRoom) (x : NodeCase) (left : List NodeCase) →
-        IsAt basis.now root turns.old at.depth case.old at.node x left →
+        IsAt basis.now root stack.old at.depth case.old at.node x left →
         IsFurther root case.new }
     ensures judged { (root : CaseRoom) (x : NodeCase) (left : List NodeCase) →
-        IsAt basis.now root turns.old at.depth case.old at.node x left →
+        IsAt basis.now root stack.old at.depth case.old at.node x left →
         IsJudged basis.now leaf.old.pack.work at.node x result }
     ensures work { (root : CaseRoom) (x : NodeCase) (left : List NodeCase) →
-        IsAt basis.now root turns.old at.depth case.old at.node x left →
+        IsAt basis.now root stack.old at.depth case.old at.node x left →
         OnOk result (leaf.new.pack.work ≡ leaf.old.pack.work + node_work basis.now x) }
     ensures goes_on { (root : CaseRoom) (x : NodeCase) (left : List NodeCase) →
-        IsAt basis.now root turns.old at.depth case.old at.node x left →
-        IfOk result (λ next. GoesOn basis.now root turns.new next case.new left) }
+        IsAt basis.now root stack.old at.depth case.old at.node x left →
+        IfOk result (λ next. GoesOn basis.now root stack.new next case.new left) }
 {
     match node_at(basis.proof, at.node) {
         Node::Wide { rank, width } => {
-            if !begin_wide(basis, at, case, turns, *rank, *width) {
+            if !begin_wide(basis, at, case, stack, *rank, *width) {
                 return Err(ProofFault::BadNode { place: at.node });
             }
             Ok(at.depth + 1)
@@ -332,17 +332,17 @@ fn go_on(
             rank,
             twins,
         } => {
-            if !begin_place(basis, at, case, turns, *module, *rank, twins) {
+            if !begin_place(basis, at, case, stack, *module, *rank, twins) {
                 return Err(ProofFault::BadNode { place: at.node });
             }
             Ok(at.depth + 1)
         }
         Node::Sum { weights } => match judge_leaf(basis, at.node, case, weights, leaf) {
-            Ok(()) => Ok(next_branch(basis, case, turns, at.depth)),
+            Ok(()) => Ok(next_branch(basis, case, stack, at.depth)),
             Err(fault) => Err(fault),
         },
         Node::Pack { pricing } => match judge_pack(basis, at.node, case, pricing, leaf) {
-            Ok(()) => Ok(next_branch(basis, case, turns, at.depth)),
+            Ok(()) => Ok(next_branch(basis, case, stack, at.depth)),
             Err(fault) => Err(fault),
         },
     }
@@ -354,34 +354,34 @@ fn check_node(
     at: WalkSpot,
     case: &mut CaseRoom,
     leaf: &mut LeafRoom,
-    turns: &mut [OpenSplit],
+    stack: &mut [OpenSplit],
 ) -> Result<usize, ProofFault>
     requires basis { IsBasis basis.now }
     requires kept { AllKept basis.now }
     requires said { MayBeSaid (proof_of basis.now) }
     requires room { IsRoomFor basis.now case.old }
     requires leaves { FitsLeaves basis.now leaf.old }
-    requires depth { at.depth < length turns.old }
+    requires depth { at.depth < length stack.old }
     requires here { (root : CaseRoom) × (x : NodeCase) × (left : List NodeCase) ×
-        IsHere basis.now root turns.old at.depth case.old at.node x left }
+        IsHere basis.now root stack.old at.depth case.old at.node x left }
     ensures leaves { FitsLeaves basis.now leaf.new }
     ensures room { IfOk result (λ next. IsRoomFor basis.now case.new) }
     ensures few { IfOk result (λ next. next ≤ at.depth + 1) }
     ensures further { (root : CaseRoom) (x : NodeCase) (left : List NodeCase) →
-        IsHere basis.now root turns.old at.depth case.old at.node x left →
+        IsHere basis.now root stack.old at.depth case.old at.node x left →
         IsFurther root case.new }
     ensures judged { (root : CaseRoom) (x : NodeCase) (left : List NodeCase) →
-        IsHere basis.now root turns.old at.depth case.old at.node x left →
+        IsHere basis.now root stack.old at.depth case.old at.node x left →
         IsJudged basis.now leaf.old.pack.work at.node x result }
     ensures work { (root : CaseRoom) (x : NodeCase) (left : List NodeCase) →
-        IsHere basis.now root turns.old at.depth case.old at.node x left →
+        IsHere basis.now root stack.old at.depth case.old at.node x left →
         OnOk result (leaf.new.pack.work ≡ leaf.old.pack.work + node_work basis.now x) }
     ensures goes_on { (root : CaseRoom) (x : NodeCase) (left : List NodeCase) →
-        IsHere basis.now root turns.old at.depth case.old at.node x left →
-        IfOk result (λ next. GoesOn basis.now root turns.new next case.new left) }
+        IsHere basis.now root stack.old at.depth case.old at.node x left →
+        IfOk result (λ next. GoesOn basis.now root stack.new next case.new left) }
 {
     case.tighten();
-    go_on(basis, at, case, leaf, turns)
+    go_on(basis, at, case, leaf, stack)
 }
 
 /// Checks the nodes of a proof one after another, the case being that of the root. An error is the fault of the first node
@@ -390,7 +390,7 @@ pub(crate) fn check_nodes(
     basis: &Basis<'_>,
     case: &mut CaseRoom,
     leaf: &mut LeafRoom,
-    turns: &mut [OpenSplit],
+    stack: &mut [OpenSplit],
 ) -> Result<(), ProofFault>
     requires basis { IsBasis basis.now }
     requires kept { AllKept basis.now }
@@ -399,7 +399,7 @@ pub(crate) fn check_nodes(
     requires root { IsCaseOf case.old root_case }
     requires leaves { FitsLeaves basis.now leaf.old }
     requires work { leaf.old.pack.work ≡ 0 }
-    requires turns { length (proof_of basis.now).nodes ≤ length turns.old }
+    requires stack { length (proof_of basis.now).nodes ≤ length stack.old }
     ensures leaves { FitsLeaves basis.now leaf.new }
     ensures further { IsFurther case.old case.new }
     ensures checked { (t : CaseTree) → nodes_of t ≡ (proof_of basis.now).nodes →
@@ -408,7 +408,7 @@ pub(crate) fn check_nodes(
     let mut depth = 0;
     for node in 0..basis.proof.nodes.len() {
         let at = WalkSpot { node, depth };
-        match check_node(basis, at, case, leaf, turns) {
+        match check_node(basis, at, case, leaf, stack) {
             Ok(next) => depth = next,
             Err(fault) => return Err(fault),
         }

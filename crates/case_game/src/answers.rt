@@ -59,7 +59,7 @@ fn own_use(basis: &LeafBasis, list: usize) -> u64 {
 }
 
 impl Answers {
-    /// Room for the games of a chip. `NoMemory` where there is none.
+    /// Room for the games of a chip. `NoMemory` where memory runs out.
     pub fn new(alloc: Global, chip: &ChipTables) -> Result<Answers, NoMemory> {
         let room = CUTS_MOST.saturating_mul(chip.modules);
         let picks = filled(alloc, NO_PICK, room)?;

@@ -24,7 +24,7 @@ pub struct CaseGame {
 }
 
 impl CaseGame {
-    /// Room for the cases of a chip. `NoMemory` where there is none.
+    /// Room for the cases of a chip. `NoMemory` where memory runs out.
     pub fn new(alloc: Global, chip: &ChipTables) -> Result<CaseGame, NoMemory> {
         let cases = both(
             Spans::new(alloc, chip.modules, chip.wires),

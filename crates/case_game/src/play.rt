@@ -50,7 +50,7 @@ pub(crate) struct Play {
 }
 
 impl Play {
-    /// Room for the games of a chip. `NoMemory` where there is none.
+    /// Room for the games of a chip. `NoMemory` where memory runs out.
     pub fn new(alloc: Global, chip: &ChipTables) -> Result<Play, NoMemory> {
         let sides = both(Pays::new(alloc, chip), Answers::new(alloc, chip));
         let game = both(Resources::new(alloc), filled(alloc, 0i64, CUTS_MOST));

@@ -61,7 +61,7 @@ fn normalize_parts(parts: &mut [i64], count: usize) {
 }
 
 impl Resources {
-    /// Room for the resources of games; there are none yet. `NoMemory` where there is none.
+    /// Room for the resources of games; there are none yet. `NoMemory` where memory runs out.
     pub fn new(alloc: Global) -> Result<Resources, NoMemory> {
         let rank_place = filled(alloc, NONE, RANGES_MOST)?;
         let list_at = filled(alloc, NONE, LISTS_MOST)?;

@@ -34,7 +34,7 @@ pub struct Case {
 }
 
 impl Case {
-    /// The case in which no rank is known. `NoMemory` where there is none.
+    /// The case in which no rank is known. `NoMemory` where memory runs out.
     pub fn new(alloc: Global, wires: usize, modules: usize) -> Result<Case, NoMemory> {
         let low = filled(alloc, 0usize, RANKS_MOST)?;
         let high = filled(alloc, 0usize, RANKS_MOST)?;

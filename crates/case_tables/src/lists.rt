@@ -52,7 +52,7 @@ fn excludes_all(chip: &ChipTables, test: usize, members: &[u64]) -> bool {
 }
 
 impl Lists {
-    /// Room for the lists of a chip; there are none yet. `NoMemory` where there is none.
+    /// Room for the lists of a chip; there are none yet. `NoMemory` where memory runs out.
     pub fn new(alloc: Global, chip: &ChipTables) -> Result<Lists, NoMemory> {
         let room = LISTS_MOST.saturating_mul(chip.words);
         let form = filled(alloc, ListForm::Power, LISTS_MOST)?;
@@ -178,7 +178,7 @@ pub struct ChosenLists {
 }
 
 impl ChosenLists {
-    /// Room for lists; none is chosen yet. `NoMemory` where there is none.
+    /// Room for lists; none is chosen yet. `NoMemory` where memory runs out.
     pub fn new(alloc: Global) -> Result<ChosenLists, NoMemory> {
         let places = filled(alloc, NONE, LISTS_MOST)?;
         Ok(ChosenLists { count: 0, places })

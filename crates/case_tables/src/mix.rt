@@ -20,7 +20,7 @@ pub struct Mix {
 }
 
 impl Mix {
-    /// Room for the mixes of a chip. `NoMemory` where there is none.
+    /// Room for the mixes of a chip. `NoMemory` where memory runs out.
     pub fn new(alloc: Global, chip: &ChipTables) -> Result<Mix, NoMemory> {
         let room = chip.tests.saturating_mul(chip.wires);
         let on_all = filled(alloc, 0i64, chip.tests)?;

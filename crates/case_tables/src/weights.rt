@@ -50,7 +50,7 @@ fn scale_all(list: &mut [u64], count: usize, most: u64, whole: u64) {
 }
 
 impl LeafWeights {
-    /// Room for weights, all 0. `NoMemory` where there is none.
+    /// Room for weights, all 0. `NoMemory` where memory runs out.
     pub fn new(alloc: Global) -> Result<LeafWeights, NoMemory> {
         let ranks = filled(alloc, 0u64, RANGES_MOST)?;
         let lists = filled(alloc, 0usize, LISTS_MOST)?;

@@ -362,7 +362,7 @@ impl Printing {
 }
 
 /// The proof of a claim by the first `nodes` nodes of a tree; a node whose branches come later is a leaf. Lists that no leaf
-/// names are left out. `NoMemory` where there is none.
+/// names are left out. `NoMemory` where memory runs out.
 pub fn proof_of(
     alloc: Global,
     tree: &CaseTree,

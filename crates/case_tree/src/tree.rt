@@ -216,7 +216,7 @@ fn list_length(names: ProofNames<'_>, list: usize) -> u64 {
 
 impl CaseTree {
     /// Room for a tree of `nodes_most` nodes, with `pool_most` weights and twins, and leaves Pack of `modules` wired modules that take
-    /// `packs_most` numbers in all. `NoMemory` where there is none.
+    /// `packs_most` numbers in all. `NoMemory` where memory runs out.
     pub fn new(
         alloc: Global,
         nodes_most: usize,

@@ -249,7 +249,7 @@ fn push_all(
     push_rows(alloc, chip, problem)
 }
 
-/// The tables of a chip and its limits, for a plan of `goal` cycles. `NoMemory` where there is none.
+/// The tables of a chip and its limits, for a plan of `goal` cycles. `NoMemory` where memory runs out.
 pub fn tables_of(alloc: Global, problem: &Problem<'_>, goal: u64) -> Result<ChipTables, NoMemory> {
     let limits = problem.limits;
     let times = PackedTimes::new(alloc, problem.soc, limits.wires)?;

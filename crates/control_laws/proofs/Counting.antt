@@ -83,9 +83,9 @@ none_between setup si so p d j after before = false_from_ne_true (captures setup
 
 here : (setup si so p d : ℕ) → d < p → captures setup si so p (place setup si so d) ≡ true
 here setup si so p d within =
-    let turn : suc d - 1 ≡ d = omega arith in
+    let one_less : suc d - 1 ≡ d = omega arith in
     let at = capture_at setup si so p (suc d) (omega arith) (omega arith) in
-    let at' = rw turn at at in
+    let at' = rw one_less at at in
     ap is_capture at'
 
 count_at : (setup si so p d : ℕ) → d < p → count_below (captures setup si so p) (place setup si so d) ≡ d

@@ -26,7 +26,7 @@ pub struct ControlRows {
 }
 
 impl ControlRows {
-    /// The rows of a good plan of a sound chip. All memory is taken here: `NoMemory` where there is none.
+    /// The rows of a good plan of a sound chip. All memory is taken here: `NoMemory` where memory runs out.
     pub fn new(alloc: Global, placed: &PlacedPlan<'_>) -> Result<ControlRows, NoMemory>
         ensures { IfOk result (AreControlRows placed.now.soc placed.now.plan) }
     {

@@ -71,7 +71,7 @@ fn push_captures(list: &mut Vec<Control>, numbers: &[u64]) -> Result<(), NoMemor
     Ok(())
 }
 
-/// The numbers of the modules with a live test over the wires, in the order of the chip. `NoMemory` where there is none.
+/// The numbers of the modules with a live test over the wires, in the order of the chip. `NoMemory` where memory runs out.
 pub fn tam_modules(alloc: Global, soc: &Soc) -> Result<Vec<u64>, NoMemory>
     ensures { IfOk result (λ list. list.items ≡ tam_numbers (soc_value soc.now)) }
 {
@@ -85,7 +85,7 @@ pub fn tam_modules(alloc: Global, soc: &Soc) -> Result<Vec<u64>, NoMemory>
 }
 
 /// The controls of a chip, in their order: the one of each live test, then for each module with a live test over the wires that of its
-/// Shifts, and then for each of these that of its Captures. `NoMemory` where there is none.
+/// Shifts, and then for each of these that of its Captures. `NoMemory` where memory runs out.
 pub fn controls_of(alloc: Global, soc: &Soc) -> Result<Vec<Control>, NoMemory>
     ensures { IfOk result (λ list. list.items ≡ controls (soc_value soc.now)) }
 {

@@ -46,7 +46,7 @@ pub struct RowSource<'a> {
 }
 
 impl<'a> RowSource<'a> {
-    /// What the rows of a good plan of a sound chip are made from, for contents. `NoMemory` where there is none.
+    /// What the rows of a good plan of a sound chip are made from, for contents. `NoMemory` where memory runs out.
     pub fn new<C: Contents>(
         alloc: Global,
         placed: &PlacedPlan<'a>,
@@ -129,7 +129,7 @@ fn rows_of_bytes(alloc: Global, count: usize, row: usize) -> Result<Vec<u8>, NoM
 }
 
 impl BlockRooms {
-    /// Room for the blocks of a source, and for a text with parts of at most `room` bytes. `NoMemory` where there is none.
+    /// Room for the blocks of a source, and for a text with parts of at most `room` bytes. `NoMemory` where memory runs out.
     pub fn new(alloc: Global, source: &RowSource<'_>, room: usize) -> Result<BlockRooms, NoMemory>
         requires narrow { source.now.wires ≤ 256 }
         requires few { source.now.most < 2 ^ 63 }

@@ -42,7 +42,7 @@ fn led_to(alloc: Global, lists: &[Neighbours], from: usize) -> Result<Vec<bool>,
 }
 
 /// Marks each test that a path of precedences leads to from a test, where the lists have for each test those that come
-/// after it. `NoMemory` where there is none.
+/// after it. `NoMemory` where memory runs out.
 pub fn tests_after(alloc: Global, lists: &[Neighbours], test: usize) -> Result<Vec<bool>, NoMemory>
     requires lists { (pairs : List (ℕ × ℕ)) × AreAfter pairs lists.now }
     requires test { test < length lists.now }
@@ -54,7 +54,7 @@ pub fn tests_after(alloc: Global, lists: &[Neighbours], test: usize) -> Result<V
 }
 
 /// Marks each test from which a path of precedences leads to a test, where the lists have for each test those that come
-/// before it. `NoMemory` where there is none.
+/// before it. `NoMemory` where memory runs out.
 pub fn tests_before(alloc: Global, lists: &[Neighbours], test: usize) -> Result<Vec<bool>, NoMemory>
     requires lists { (pairs : List (ℕ × ℕ)) × AreBefore pairs lists.now }
     requires test { test < length lists.now }

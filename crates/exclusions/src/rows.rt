@@ -24,7 +24,7 @@ pub struct ExclusionRows {
 }
 
 impl ExclusionRows {
-    /// Those of a chip and its limits. `NoMemory` where there is none.
+    /// Those of a chip and its limits. `NoMemory` where memory runs out.
     pub fn new(alloc: Global, problem: &Problem<'_>) -> Result<ExclusionRows, NoMemory>
         ensures { IfOk result (λ rows. AreRowsOf problem.now.soc problem.now.limits rows) }
     {
@@ -40,7 +40,7 @@ impl ExclusionRows {
     }
 
     /// The row of the live test at a place: a mark for each live test, by its place, which is true exactly where the two
-    /// exclude each other. `NoMemory` where there is none. It takes time by the live tests and the precedences.
+    /// exclude each other. `NoMemory` where memory runs out. It takes time by the live tests and the precedences.
     pub fn row(&self, alloc: Global, test: usize) -> Result<Vec<bool>, NoMemory>
         requires { HasRow self.now test }
         ensures long { IfOk result (λ marks. (soc : SocValue) (limits : LimitsValue) →

@@ -9,11 +9,11 @@ use Rattle.std.proofs.lemmas.Option.{slice_get_within, slice_get-get_or, get_or_
 use Rattle.soc_model.specs.declared.TestId.{TestId}
 use Rattle.soc_model.specs.Chips.{ModuleValue, SocValue}
 use Rattle.plan_model.specs.declared.moments.Phases.{Phases}
-use Rattle.plan_model.specs.declared.moments.Turn.{Turn}
+use Rattle.plan_model.specs.declared.moments.NearCapture.{NearCapture}
 use Rattle.plan_model.specs.Cells.{chain_cells, out_length}
 use Rattle.plan_model.specs.declared.moments.Moment.{Moment}
 use Rattle.plan_model.specs.declared.Wrapper.{Wrapper}
-use Rattle.plan_model.specs.Moments.{ArePhases, IsMoment, moment_behind, phase_ops, turn_value}
+use Rattle.plan_model.specs.Moments.{ArePhases, IsMoment, moment_behind, phase_ops, near_capture}
 use Rattle.plan_model.specs.Operations.{Shift, Capture, ops_of}
 use Rattle.plan_model.specs.Plans.{WrapperValue, PlanValue, PlannedTest, planned, uses, widths}
 use Rattle.plan_model.specs.Right.{IsAt, IsReadAt, IsRight}
@@ -32,7 +32,7 @@ use Rattle.fail_locate.specs.declared.Spot.{Spot}
 use Rattle.fail_locate.specs.declared.wired.WiredTest.{WiredTest}
 use Rattle.fail_locate.specs.Chains.{IsFromEnd, cells_at}
 use Rattle.fail_locate.specs.Laws.{SpotsAreOne}
-use Rattle.fail_locate.specs.Locating.{IsBehind, IsLast, IsLocator, IsOnWire, IsTurn}
+use Rattle.fail_locate.specs.Locating.{IsBehind, IsLast, IsLocator, IsOnWire, IsNearCapture}
 use Rattle.fail_locate.specs.Spots.{IsNoSpot, IsSpot, cell_value}
 use Rattle.fail_locate.specs.Wired.{IsKept, IsPlanned, IsWired}
 use Rattle.common_lemmas.proofs.Lists.{from_map}
@@ -195,47 +195,47 @@ same_test soc plan firsts tests l i k c w bus chain u x at read on t last =
 
 -- ---- the capture and the cell of a read
 
-behind_read : (soc : SocValue) (plan : PlanValue) (u : PlannedTest) (k : ℕ) (x : cells.Cell) (c w : ℕ) (read : IsReadAt u k x c w) → Reading plan u k x c w read → (t : WiredTest) → IsWired soc plan u t → (turn : Option Turn) → IsTurn t.phases (c - t.start) turn → option_map turn_value turn ≡ Some (read.shifts, k)
-behind_read soc plan u k x c w read r t is turn turns =
+behind_read : (soc : SocValue) (plan : PlanValue) (u : PlannedTest) (k : ℕ) (x : cells.Cell) (c w : ℕ) (read : IsReadAt u k x c w) → Reading plan u k x c w read → (t : WiredTest) → IsWired soc plan u t → (near : Option NearCapture) → IsNearCapture t.phases (c - t.start) near → option_map near_capture near ≡ Some (read.shifts, k)
+behind_read soc plan u k x c w read r t is near all_near =
     let start : t.start ≡ u.start = is.start in
     let b : IsBehind t.phases (c - t.start) read.shifts k = record { at = read.capture - u.start; captures = ap (λ ops. slice_get ops (read.capture - u.start)) (sym is.operations) ∙ r.captures; before = omega (arith, read.cycle, r.capture_begun) } in
     let long : length u.operations ≡ length (phase_ops t.phases) = ap length is.operations in
     let same : chain_at u read.chain ≡ read.cells = chain_is u read.chain read.cells read.there in
     let short : out_length read.cells ≤ t.phases.so = subst (λ cells. out_length cells ≤ t.phases.so) same (is.out_fits read.chain) in
-    turns.every read.shifts k b (omega (arith, r.going)) (omega (arith, read.within))
+    all_near.every read.shifts k b (omega (arith, r.going)) (omega (arith, read.within))
 
-pub none_behind : (soc : SocValue) (plan : PlanValue) (firsts : List ℕ) (tests : List WiredTest) → IsLocator soc plan firsts tests → (cycle wire bus chain : ℕ) → IsOnWire firsts wire bus chain → (t : WiredTest) → IsLast tests bus cycle t → IsTurn t.phases (cycle - t.start) None → IsNoSpot soc plan cycle wire
-none_behind soc plan firsts tests l cycle wire bus chain on t last turns i k u x at read =
+pub none_behind : (soc : SocValue) (plan : PlanValue) (firsts : List ℕ) (tests : List WiredTest) → IsLocator soc plan firsts tests → (cycle wire bus chain : ℕ) → IsOnWire firsts wire bus chain → (t : WiredTest) → IsLast tests bus cycle t → IsNearCapture t.phases (cycle - t.start) None → IsNoSpot soc plan cycle wire
+none_behind soc plan firsts tests l cycle wire bus chain on t last all_near i k u x at read =
     let r : Reading plan u k x cycle wire read = reading soc plan l.good i k cycle wire u x at read in
     let is : IsWired soc plan u t = same_test soc plan firsts tests l i k cycle wire bus chain u x at read on t last in
-    let wrong : option_map turn_value None ≡ Some (read.shifts, k) = behind_read soc plan u k x cycle wire read r t is None turns in
+    let wrong : option_map near_capture None ≡ Some (read.shifts, k) = behind_read soc plan u k x cycle wire read r t is None all_near in
     cc
 
-shifts_are : (turn : Turn) (s k : ℕ) → Some (turn_value turn) ≡ Some (s, k) → turn.shifts ≡ s
-shifts_are turn s k e = let pair : turn_value turn ≡ (s, k) = same_Some (turn_value turn) (s, k) e in ap (λ (p : ℕ × ℕ). p.0) pair
+shifts_are : (near : NearCapture) (s k : ℕ) → Some (near_capture near) ≡ Some (s, k) → near.shifts ≡ s
+shifts_are near s k e = let pair : near_capture near ≡ (s, k) = same_Some (near_capture near) (s, k) e in ap (λ (p : ℕ × ℕ). p.0) pair
 
-pub none_there : (soc : SocValue) (plan : PlanValue) (firsts : List ℕ) (tests : List WiredTest) → IsLocator soc plan firsts tests → (cycle wire bus chain : ℕ) → IsOnWire firsts wire bus chain → (t : WiredTest) → IsLast tests bus cycle t → (turn : Turn) → IsTurn t.phases (cycle - t.start) (Some turn) →
-    ((u : PlannedTest) → IsWired soc plan u t → IsFromEnd (cells_at u.chains chain) turn.shifts None) → IsNoSpot soc plan cycle wire
-none_there soc plan firsts tests l cycle wire bus chain on t last turn turns none i k u x at read =
+pub none_there : (soc : SocValue) (plan : PlanValue) (firsts : List ℕ) (tests : List WiredTest) → IsLocator soc plan firsts tests → (cycle wire bus chain : ℕ) → IsOnWire firsts wire bus chain → (t : WiredTest) → IsLast tests bus cycle t → (near : NearCapture) → IsNearCapture t.phases (cycle - t.start) (Some near) →
+    ((u : PlannedTest) → IsWired soc plan u t → IsFromEnd (cells_at u.chains chain) near.shifts None) → IsNoSpot soc plan cycle wire
+none_there soc plan firsts tests l cycle wire bus chain on t last near all_near none i k u x at read =
     let r : Reading plan u k x cycle wire read = reading soc plan l.good i k cycle wire u x at read in
     let is : IsWired soc plan u t = same_test soc plan firsts tests l i k cycle wire bus chain u x at read on t last in
     let found : OnFound u bus chain read.chain = on_found soc plan firsts tests l i k cycle wire bus chain u x at read on in
-    let shifts : turn.shifts ≡ read.shifts = shifts_are turn read.shifts k (behind_read soc plan u k x cycle wire read r t is (Some turn) turns) in
+    let shifts : near.shifts ≡ read.shifts = shifts_are near read.shifts k (behind_read soc plan u k x cycle wire read r t is (Some near) all_near) in
     let cells' : cells_at u.chains chain ≡ read.cells = ap (cells_at u.chains) found.chain_is ∙ get_or_from_slice_get u.chains read.chain read.cells [] read.there in
-    let past : out_length read.cells ≤ turn.shifts = subst (λ cells. out_length cells ≤ turn.shifts) cells' (none u is) in
+    let past : out_length read.cells ≤ near.shifts = subst (λ cells. out_length cells ≤ near.shifts) cells' (none u is) in
     omega (arith, past, shifts, read.within)
 
 -- ---- a read that is found
 
-pub found_spot : (soc : SocValue) (plan : PlanValue) (firsts : List ℕ) (tests : List WiredTest) → IsLocator soc plan firsts tests → (cycle wire bus chain : ℕ) → IsOnWire firsts wire bus chain → (t : WiredTest) → IsLast tests bus cycle t → (turn : Turn) → IsTurn t.phases (cycle - t.start) (Some turn) → (cell : Cell) →
-    ((u : PlannedTest) → IsWired soc plan u t → IsFromEnd (cells_at u.chains chain) turn.shifts (Some cell)) → IsSpot soc plan cycle wire (record { test = t.id; pattern = turn.pattern; cell = cell })
-found_spot soc plan firsts tests l cycle wire bus chain on t last turn turns cell at =
+pub found_spot : (soc : SocValue) (plan : PlanValue) (firsts : List ℕ) (tests : List WiredTest) → IsLocator soc plan firsts tests → (cycle wire bus chain : ℕ) → IsOnWire firsts wire bus chain → (t : WiredTest) → IsLast tests bus cycle t → (near : NearCapture) → IsNearCapture t.phases (cycle - t.start) (Some near) → (cell : Cell) →
+    ((u : PlannedTest) → IsWired soc plan u t → IsFromEnd (cells_at u.chains chain) near.shifts (Some cell)) → IsSpot soc plan cycle wire (record { test = t.id; pattern = near.pattern; cell = cell })
+found_spot soc plan firsts tests l cycle wire bus chain on t last near all_near cell at =
     let p : IsPlanned soc plan (planned soc plan) t = l.wired.planned last.place t last.at in
     go p.place p.test p.at p.wired
   where
-    go : (place : ℕ) (u : PlannedTest) → IsAt (planned soc plan) place u → IsWired soc plan u t → IsSpot soc plan cycle wire (record { test = t.id; pattern = turn.pattern; cell = cell })
+    go : (place : ℕ) (u : PlannedTest) → IsAt (planned soc plan) place u → IsWired soc plan u t → IsSpot soc plan cycle wire (record { test = t.id; pattern = near.pattern; cell = cell })
     go place u there v =
-        let b : IsBehind t.phases (cycle - t.start) turn.shifts turn.pattern = turns.behind turn.shifts turn.pattern refl in
+        let b : IsBehind t.phases (cycle - t.start) near.shifts near.pattern = all_near.behind near.shifts near.pattern refl in
         let here = at u v in
         let bus_is : bus ≡ u.bus = sym last.same_bus ∙ v.bus in
         let on' : OnBus plan u = on_bus soc plan place u there in
@@ -250,17 +250,17 @@ found_spot soc plan firsts tests l cycle wire bus chain on t last turn turns cel
             chain = chain;
             cells = cells_at u.chains chain;
             there = slice_get-get_or u.chains chain [] (listed u here.0 (cases_lt chain (length u.chains)));
-            shifts = turn.shifts;
+            shifts = near.shifts;
             within = here.0;
             cell = here.1;
             capture = u.start + b.at;
-            captures = at_start_plus u b.at (Capture turn.pattern) (ap (λ ops. slice_get ops b.at) v.operations ∙ b.captures);
+            captures = at_start_plus u b.at (Capture near.pattern) (ap (λ ops. slice_get ops b.at) v.operations ∙ b.captures);
             cycle = omega (arith, b.before, last.begun, v.start);
             wire = omega (arith, on.wire_is, first, first');
           };
         }
       where
-        listed : (u : PlannedTest) → turn.shifts < out_length (cells_at u.chains chain) → (chain < length u.chains) ⊎ (length u.chains ≤ chain) → chain < length u.chains
+        listed : (u : PlannedTest) → near.shifts < out_length (cells_at u.chains chain) → (chain < length u.chains) ⊎ (length u.chains ≤ chain) → chain < length u.chains
         listed u within (inl less) = less
         listed u within (inr past) =
             let none : cells_at u.chains chain ≡ [] = get_or_past u.chains chain [] past in
@@ -275,8 +275,8 @@ last_planned soc plan firsts tests l bus cycle t last = l.wired.planned last.pla
 pub end_is : (soc : SocValue) (plan : PlanValue) (u : PlannedTest) (t : WiredTest) → IsWired soc plan u t → t.end ≡ t.start + length (phase_ops t.phases)
 end_is soc plan u t is = let long : length u.operations ≡ length (phase_ops t.phases) = ap length is.operations in omega (arith, is.ends, is.start)
 
-pub turn_is : (p : Phases) (n : ℕ) (m : Moment) (turn : Option Turn) → IsMoment p n m → option_map turn_value turn ≡ moment_behind m → IsTurn p n turn
-turn_is p n m turn is same = record {
+pub turn_is : (p : Phases) (n : ℕ) (m : Moment) (near : Option NearCapture) → IsMoment p n m → option_map near_capture near ≡ moment_behind m → IsNearCapture p n near
+turn_is p n m near is same = record {
   behind = λ s k e. let b = is.behind s k (sym same ∙ e) in record { at = b.0; captures = b.1; before = b.2 };
   every = λ s k b within short. same ∙ is.every s k b.at b.captures b.before short;
 }

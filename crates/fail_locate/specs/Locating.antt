@@ -3,8 +3,8 @@ use Rattle.std.specs.Prelude.{◌≡◌, ℕ, ◌+◌, ◌<◌, ◌≤◌, Bool,
 use Rattle.soc_model.specs.Chips.{SocValue}
 use Rattle.soc_model.specs.SoundChips.{IsSoundChip}
 use Rattle.plan_model.specs.declared.moments.Phases.{Phases}
-use Rattle.plan_model.specs.declared.moments.Turn.{Turn}
-use Rattle.plan_model.specs.Moments.{phase_ops, turn_value}
+use Rattle.plan_model.specs.declared.moments.NearCapture.{NearCapture}
+use Rattle.plan_model.specs.Moments.{phase_ops, near_capture}
 use Rattle.plan_model.specs.Operations.{Capture}
 use Rattle.plan_model.specs.Plans.{PlanValue, planned, widths}
 use Rattle.plan_model.specs.Rules.{IsGoodAlone}
@@ -37,9 +37,9 @@ pub record IsBehind (p : Phases) (n shifts pattern : ℕ) : Type 0 where
   pub before : n ≡ at + 1 + shifts
 
 -- the capture behind operation `n`: it is one, and where one is read, it is that
-pub record IsTurn (p : Phases) (n : ℕ) (turn : Option Turn) : Type 0 where
-  pub behind : (s k : ℕ) → option_map turn_value turn ≡ Some (s, k) → IsBehind p n s k
-  pub every : (s k : ℕ) → IsBehind p n s k → n < length (phase_ops p) → s < p.so → option_map turn_value turn ≡ Some (s, k)
+pub record IsNearCapture (p : Phases) (n : ℕ) (near : Option NearCapture) : Type 0 where
+  pub behind : (s k : ℕ) → option_map near_capture near ≡ Some (s, k) → IsBehind p n s k
+  pub every : (s k : ℕ) → IsBehind p n s k → n < length (phase_ops p) → s < p.so → option_map near_capture near ≡ Some (s, k)
 
 -- what every locator keeps
 pub record IsLocator (soc : SocValue) (plan : PlanValue) (firsts : List ℕ) (tests : List WiredTest) : Type 0 where

@@ -9,7 +9,7 @@ ghost use Rattle.plan_model.specs.Rules.{IsGoodAlone};
 ghost use Rattle.plan_model.specs.Views.{plan_value};
 ghost use Rattle.fail_locate.specs.declared.wired.WiredTest.{WiredTest};
 ghost use Rattle.fail_locate.specs.Chains.{IsFromEnd, cells_at};
-ghost use Rattle.fail_locate.specs.Locating.{IsLast, IsOnWire, IsTurn, comes_by};
+ghost use Rattle.fail_locate.specs.Locating.{IsLast, IsOnWire, IsNearCapture, comes_by};
 ghost use Rattle.fail_locate.specs.SpotAt.{spot_at};
 ghost use Rattle.fail_locate.specs.Spots.{IsNoSpot, IsSpot};
 ghost use Rattle.fail_locate.specs.Wired.{AreInOrder, AreWired, IsWired};
@@ -19,7 +19,7 @@ use crate::wired::{WiredTest, wired_tests, wired_tests_of};
 use crate::{Cell, Spot};
 use live_tests::{LiveTests, Placed, PlacedPlan, first_wires};
 use outside::NoMemory;
-use plan_model::{Plan, Turn};
+use plan_model::{NearCapture, Plan};
 use soc_model::{Soc, module_at};
 use std::alloc::Global;
 use std::marker::Model;
@@ -103,11 +103,11 @@ fn last_begun(tests: &[WiredTest], bus: usize, cycle: u64) -> Option<WiredTest>
 }
 
 /// The capture behind a cycle of a test that has begun, where Shifts alone lie after it.
-fn turn_behind(test: &WiredTest, cycle: u64) -> Option<Turn>
+fn capture_behind(test: &WiredTest, cycle: u64) -> Option<NearCapture>
     requires phases { ArePhases test.now.phases }
     requires begun { test.now.start ≤ cycle }
     requires ends { test.now.end ≡ test.now.start + length (phase_ops test.now.phases) }
-    ensures { IsTurn test.now.phases (cycle - test.now.start) result }
+    ensures { IsNearCapture test.now.phases (cycle - test.now.start) result }
 {
     if cycle >= test.end {
         return None;
@@ -154,7 +154,7 @@ impl<'a> Model for Locator<'a> {
 }
 
 impl<'a> Locator<'a> {
-    /// A locator for a good plan of a sound chip. `NoMemory` where there is none.
+    /// A locator for a good plan of a sound chip. `NoMemory` where memory runs out.
     pub fn new(alloc: Global, soc: &'a Soc, plan: &'a Plan) -> Result<Locator<'a>, NoMemory>
         requires sound { IsSoundChip (soc_value soc.now) }
         requires good { IsGoodAlone (soc_value soc.now) (plan_value plan.now) }
@@ -170,7 +170,7 @@ impl<'a> Locator<'a> {
         Locator::with_tests(alloc, soc, plan, tests?)
     }
 
-    /// A locator for a good plan of a sound chip, where the plan is placed already. `NoMemory` where there is none.
+    /// A locator for a good plan of a sound chip, where the plan is placed already. `NoMemory` where memory runs out.
     pub fn of(alloc: Global, placed: &PlacedPlan<'a>) -> Result<Locator<'a>, NoMemory>
         ensures { IfOk result
             (λ locator. locator ≡ record { soc = placed.now.soc; plan = placed.now.plan }) }
@@ -179,7 +179,7 @@ impl<'a> Locator<'a> {
         Locator::with_tests(alloc, placed.soc, placed.plan, tests)
     }
 
-    /// A locator for a good plan of a sound chip, with the plan's tests over the wires. `NoMemory` where there is none.
+    /// A locator for a good plan of a sound chip, with the plan's tests over the wires. `NoMemory` where memory runs out.
     fn with_tests(
         alloc: Global,
         soc: &'a Soc,
@@ -211,11 +211,11 @@ impl<'a> Locator<'a> {
     {
         let (bus, chain) = on_bus(&self.firsts, wire)?;
         let test = last_begun(&self.tests, bus, cycle)?;
-        let turn = turn_behind(&test, cycle)?;
-        let cell = cell_of(self.soc, self.plan, &test, chain, turn.shifts)?;
+        let near = capture_behind(&test, cycle)?;
+        let cell = cell_of(self.soc, self.plan, &test, chain, near.shifts)?;
         Some(Spot {
             test: test.id,
-            pattern: turn.pattern,
+            pattern: near.pattern,
             cell,
         })
     }

@@ -50,7 +50,7 @@ fn all_wired(alloc: Global, soc: &Soc) -> Result<Vec<bool>, NoMemory>
 }
 
 impl<'a> Basis<'a> {
-    /// The basis of a check, where chip and limits are resolved. `NoMemory` where there is none.
+    /// The basis of a check, where chip and limits are resolved. `NoMemory` where memory runs out.
     pub fn new(
         alloc: Global,
         soc: &'a Soc,

@@ -35,7 +35,7 @@ pub struct Mark {
 }
 
 impl CaseRoom {
-    /// Room for `modules` modules and `ranks` ranks on `wires` wires, with the case of the root. `NoMemory` where there is none.
+    /// Room for `modules` modules and `ranks` ranks on `wires` wires, with the case of the root. `NoMemory` where memory runs out.
     pub fn new(
         alloc: Global,
         modules: usize,

@@ -44,7 +44,7 @@ pub struct LeafRoom {
 }
 
 impl LeafRoom {
-    /// Room for the leaves of a proof, each of which names at most `most` modules. `NoMemory` where there is none.
+    /// Room for the leaves of a proof, each of which names at most `most` modules. `NoMemory` where memory runs out.
     pub fn new(alloc: Global, basis: &Basis<'_>, most: usize) -> Result<LeafRoom, NoMemory>
         requires basis { IsBasis basis.now }
         ensures space { IfOk result (HasLeafSpace basis.now) }

@@ -54,7 +54,7 @@ pub struct Weighed {
 }
 
 impl Weighed {
-    /// Room for the leaves of a proof. `NoMemory` where there is none.
+    /// Room for the leaves of a proof. `NoMemory` where memory runs out.
     pub(crate) fn new(alloc: Global, basis: &Basis<'_>) -> Result<Weighed, NoMemory>
         requires basis { IsBasis basis.now }
         ensures { IfOk result (HasSpaceFor basis.now) }

@@ -72,7 +72,7 @@ fn all_tams(alloc: Global, soc: &Soc) -> Result<Vec<bool>, NoMemory>
 }
 
 impl<'a> ListRules<'a> {
-    /// Those of a chip and its limits. `NoMemory` where there is none.
+    /// Those of a chip and its limits. `NoMemory` where memory runs out.
     pub fn new(alloc: Global, problem: &Problem<'a>) -> Result<ListRules<'a>, NoMemory>
         ensures rules { IfOk result IsListRules }
         ensures chip { IfOk result (λ rules. chip_ruled rules ≡ problem.now.soc) }

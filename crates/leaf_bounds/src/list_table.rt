@@ -203,7 +203,7 @@ fn add_lists(
     Ok(lists.len())
 }
 
-/// The table of some lists. `NoMemory` where there is none.
+/// The table of some lists. `NoMemory` where memory runs out.
 pub(crate) fn list_table(
     alloc: Global,
     problem: &Problem<'_>,

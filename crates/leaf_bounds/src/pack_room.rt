@@ -43,7 +43,7 @@ pub struct PackRoom {
 }
 
 impl PackRoom {
-    /// Room for leaves over so many wires, each of which prices at most `most` modules. `NoMemory` where there is none.
+    /// Room for leaves over so many wires, each of which prices at most `most` modules. `NoMemory` where memory runs out.
     pub(crate) fn new(alloc: Global, wires: usize, most: usize) -> Result<PackRoom, NoMemory>
         requires { wires ≤ 256 }
         ensures cells { IfOk result (λ room. length room.bus.cells.items ≡ CELLS_MOST + 1) }

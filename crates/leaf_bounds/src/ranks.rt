@@ -17,7 +17,7 @@ pub struct Ranks {
     pub most: usize,
 }
 
-/// Room for `modules` modules, of which each may be on the rest, and for `ranks` ranks. `NoMemory` where there is none.
+/// Room for `modules` modules, of which each may be on the rest, and for `ranks` ranks. `NoMemory` where memory runs out.
 pub(crate) fn anywhere(alloc: Global, modules: usize, ranks: usize) -> Result<Ranks, NoMemory>
     requires modules { modules < 2 ^ 40 }
     requires ranks { ranks ≤ 256 }

@@ -87,7 +87,7 @@ fn push_tests(
     Ok(())
 }
 
-/// The live tests of a chip. `NoMemory` where there is none.
+/// The live tests of a chip. `NoMemory` where memory runs out.
 pub(crate) fn test_table(
     alloc: Global,
     soc: &Soc,

@@ -43,7 +43,7 @@ const WIDTH_MOST: u64 = 256;
 /// How often a rank is noted at most: once as it comes, and each time that an end of its interval moves by a wire.
 const CHANGES_MOST: usize = 513;
 
-/// Room for `most` ranks, of which none is known. `NoMemory` where there is none.
+/// Room for `most` ranks, of which none is known. `NoMemory` where memory runs out.
 pub(crate) fn no_ranks(alloc: Global, wires: u64, most: usize) -> Result<Widths, NoMemory>
     requires wires { wires ≤ 256 }
     requires most { most ≤ 256 }

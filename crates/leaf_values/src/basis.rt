@@ -35,7 +35,7 @@ fn power_lists(alloc: Global, chip: &ChipTables) -> Result<Lists, NoMemory> {
 }
 
 impl LeafBasis {
-    /// What leaves ask of a chip: its lists are those of power. `NoMemory` where there is none.
+    /// What leaves ask of a chip: its lists are those of power. `NoMemory` where memory runs out.
     pub fn new(alloc: Global, chip: ChipTables) -> Result<LeafBasis, NoMemory> {
         let made = both(Slots::new(alloc, &chip), power_tables(alloc, &chip));
         let (chip, (slots, (lists, powers))) = both(Ok(chip), made)?;

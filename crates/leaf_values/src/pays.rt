@@ -35,7 +35,7 @@ fn add_to(numbers: &mut [u64], place: usize, more: u64) {
 }
 
 impl Pays {
-    /// Room for the leaves of a chip. `NoMemory` where there is none.
+    /// Room for the leaves of a chip. `NoMemory` where memory runs out.
     pub fn new(alloc: Global, chip: &ChipTables) -> Result<Pays, NoMemory> {
         let room = chip.tests.saturating_mul(RANKS_MOST);
         let member = filled(alloc, 0u64, chip.tests)?;

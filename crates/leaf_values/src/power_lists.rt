@@ -70,7 +70,7 @@ fn add_nears(chip: &ChipTables, nears: &[u64], none: &[u64], lists: &mut Lists) 
     }
 }
 
-/// Adds lists of power: of all power, and of some thresholds. `NoMemory` where there is none.
+/// Adds lists of power: of all power, and of some thresholds. `NoMemory` where memory runs out.
 pub(crate) fn add_first_lists(
     alloc: Global,
     chip: &ChipTables,

@@ -41,7 +41,7 @@ pub struct Slots {
 }
 
 impl Slots {
-    /// The steps of the modules of a chip. `NoMemory` where there is none.
+    /// The steps of the modules of a chip. `NoMemory` where memory runs out.
     pub fn new(alloc: Global, chip: &ChipTables) -> Result<Slots, NoMemory> {
         let mut slots = Slots {
             wires: chip.wires,
@@ -198,7 +198,7 @@ pub struct Spans {
 }
 
 impl Spans {
-    /// Room for the cases of `modules` modules on `wires` wires. `NoMemory` where there is none.
+    /// Room for the cases of `modules` modules on `wires` wires. `NoMemory` where memory runs out.
     pub fn new(alloc: Global, modules: usize, wires: usize) -> Result<Spans, NoMemory> {
         let ranges = filled(alloc, NO_RANGE, RANGES_MOST)?;
         let first = filled(alloc, 0usize, modules.saturating_add(1))?;

@@ -70,7 +70,7 @@ pub struct LeafValues {
 }
 
 impl LeafValues {
-    /// Room for the weights of a chip. `NoMemory` where there is none.
+    /// Room for the weights of a chip. `NoMemory` where memory runs out.
     pub fn new(alloc: Global, chip: &ChipTables) -> Result<LeafValues, NoMemory> {
         let pays = Pays::new(alloc, chip)?;
         Ok(LeafValues {

@@ -46,7 +46,7 @@ impl<'a> Model for ChipTests<'a> {
 }
 
 impl<'a> ChipTests<'a> {
-    /// The tests of a chip, of which these are live. `NoMemory` where there is none for them.
+    /// The tests of a chip, of which these are live. `NoMemory` where memory runs out for them.
     pub fn new(alloc: Global, soc: &'a Soc, live: &'a LiveTests) -> Result<ChipTests<'a>, NoMemory>
         requires { live.now ≡ live_ids (soc_value soc.now) }
         ensures { IfOk result (λ tests. tests ≡ soc_value soc.now) }

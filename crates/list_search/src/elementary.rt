@@ -222,7 +222,7 @@ fn add_longest(
     Ok(())
 }
 
-/// Adds the lists of the elementary bounds, and the one that takes longest. `NoMemory` where there is none.
+/// Adds the lists of the elementary bounds, and the one that takes longest. `NoMemory` where memory runs out.
 pub fn add_elementary_lists(
     alloc: Global,
     search: &mut ListSearch,

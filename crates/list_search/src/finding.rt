@@ -42,7 +42,7 @@ fn around(chip: &ChipTables, weights: &[i64], test: usize) -> i64 {
 }
 
 impl ListSearch {
-    /// Room for a chip. `NoMemory` where there is none.
+    /// Room for a chip. `NoMemory` where memory runs out.
     pub fn new(alloc: Global, chip: &ChipTables) -> Result<ListSearch, NoMemory> {
         let marks = both(
             filled(alloc, 0u64, chip.words),

@@ -39,7 +39,7 @@ impl<'a> Model for PlanIndex<'a> {
 }
 
 impl<'a> PlanIndex<'a> {
-    /// The index of a plan. `NoMemory` where there is none.
+    /// The index of a plan. `NoMemory` where memory runs out.
     pub fn new(alloc: Global, plan: &'a Plan) -> Result<PlanIndex<'a>, NoMemory>
         ensures { IfOk result (λ index. index ≡ plan_value plan.now) }
     {

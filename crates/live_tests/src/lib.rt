@@ -61,7 +61,7 @@ impl Model for LiveTests {
 }
 
 impl LiveTests {
-    /// The live tests of a chip. `NoMemory` where there is none.
+    /// The live tests of a chip. `NoMemory` where memory runs out.
     pub fn new(alloc: Global, soc: &Soc) -> Result<LiveTests, NoMemory>
         ensures { IfOk result (λ tests. tests ≡ live_ids (soc_value soc.now)) }
     {
@@ -85,7 +85,7 @@ impl LiveTests {
     }
 
     /// The precedences by the places of their tests, in their order; those that name a test that isn't live are left
-    /// out. `NoMemory` where there is none.
+    /// out. `NoMemory` where memory runs out.
     pub fn precedences(
         &self,
         alloc: Global,

@@ -29,7 +29,7 @@ fn count_after(
     Ok(rooms)
 }
 
-/// For each of `count` tests how many come before it, by pairs of an earlier and a later test. `NoMemory` where there is none.
+/// For each of `count` tests how many come before it, by pairs of an earlier and a later test. `NoMemory` where memory runs out.
 pub fn count_before(
     alloc: Global,
     count: usize,

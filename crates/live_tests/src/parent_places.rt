@@ -70,7 +70,7 @@ fn below(count: usize, place: usize) -> Option<usize>
 }
 
 /// For each module of a chip the place of its parent, in one pass. None stands exactly where a module has no parent.
-/// `NoMemory` where there is none.
+/// `NoMemory` where memory runs out.
 pub fn parents(alloc: Global, soc: &Soc) -> Result<Vec<Option<usize>>, NoMemory>
     ensures { IfOk result (λ parents. AreParentPlaces (soc_value soc.now) parents.items) }
 {

@@ -42,7 +42,7 @@ pub struct Placed {
 }
 
 impl Placed {
-    /// What a good plan says of its chip. `NoMemory` where there is none.
+    /// What a good plan says of its chip. `NoMemory` where memory runs out.
     pub fn new(alloc: Global, soc: &Soc, plan: &Plan) -> Result<Placed, NoMemory>
         requires sound { IsSoundChip (soc_value soc.now) }
         requires good { IsGoodAlone (soc_value soc.now) (plan_value plan.now) }

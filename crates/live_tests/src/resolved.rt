@@ -28,7 +28,7 @@ pub struct Resolved {
 }
 
 impl Resolved {
-    /// A chip and its limits, resolved. `NoMemory` where there is none.
+    /// A chip and its limits, resolved. `NoMemory` where memory runs out.
     pub fn new(alloc: Global, soc: &Soc, limits: &Limits) -> Result<Resolved, NoMemory>
         ensures { IfOk result (λ resolved. IsResolved (soc_value soc.now) limits.now resolved) }
     {
@@ -38,7 +38,7 @@ impl Resolved {
         Resolved::with_places(alloc, soc, limits, tests, precedences, profiles)
     }
 
-    /// A chip and its limits, resolved, where what the limits name is at hand by place. `NoMemory` where there is none.
+    /// A chip and its limits, resolved, where what the limits name is at hand by place. `NoMemory` where memory runs out.
     pub fn with_places(
         alloc: Global,
         soc: &Soc,

@@ -19,7 +19,7 @@ fn wire_after(wire: u64, width: u64) -> Result<u64, NoMemory>
 }
 
 /// The first wire of each bus of a plan, counted from 0, and behind them the number of all wires: a bus has the wires from its own
-/// first one on up to the next entry. `NoMemory` where there is none, or where all wires are more than a machine's number
+/// first one on up to the next entry. `NoMemory` where memory runs out, or where all wires are more than a machine's number
 /// counts.
 pub fn first_wires(alloc: Global, plan: &Plan) -> Result<Vec<u64>, NoMemory>
     ensures { IfOk result (λ wires. AreFirstWires (widths (plan_value plan.now)) wires.items) }

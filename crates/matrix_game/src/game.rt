@@ -92,7 +92,7 @@ impl BasicColumns {
 }
 
 impl MatrixGame {
-    /// Room for a game of at most `count_most` resources and `cuts_most` cuts. `NoMemory` where there is none.
+    /// Room for a game of at most `count_most` resources and `cuts_most` cuts. `NoMemory` where memory runs out.
     pub fn new(alloc: Global, count_most: usize, cuts_most: usize) -> Result<MatrixGame, NoMemory> {
         let uses = filled(alloc, 0i64, count_most.saturating_mul(cuts_most))?;
         let column = filled(alloc, 0i64, count_most)?;

@@ -24,7 +24,7 @@ pub(crate) struct Basis {
 }
 
 impl Basis {
-    /// Room for tableaus of up to so many variables and rows. `NoMemory` where there is none.
+    /// Room for tableaus of up to so many variables and rows. `NoMemory` where memory runs out.
     pub fn new(alloc: Global, variables_most: usize, rows_most: usize) -> Result<Basis, NoMemory> {
         let unknowns = variables_most.saturating_add(rows_most);
         let at = both(

@@ -79,7 +79,7 @@ pub(crate) struct Line {
 }
 
 impl Line {
-    /// Room for a row of up to so many columns. `NoMemory` where there is none.
+    /// Room for a row of up to so many columns. `NoMemory` where memory runs out.
     pub fn new(alloc: Global, columns_most: usize) -> Result<Line, NoMemory> {
         let numbers = filled(alloc, 0i64, columns_most)?;
         Ok(Line {

@@ -43,7 +43,7 @@ pub struct Programme {
 }
 
 impl Programme {
-    /// Room for programmes of up to so many variables and rows: twice 8 bytes for each pair of these. `NoMemory` where there is none.
+    /// Room for programmes of up to so many variables and rows: twice 8 bytes for each pair of these. `NoMemory` where memory runs out.
     pub fn new(
         alloc: Global,
         variables_most: usize,

@@ -39,7 +39,7 @@ pub(crate) struct Tableau {
 }
 
 impl Tableau {
-    /// Room for tableaus of up to so many columns and rows. `NoMemory` where there is none.
+    /// Room for tableaus of up to so many columns and rows. `NoMemory` where memory runs out.
     pub fn new(alloc: Global, columns_most: usize, rows_most: usize) -> Result<Tableau, NoMemory> {
         let room = columns_most.saturating_mul(rows_most);
         let table = both(filled(alloc, 0i64, room), filled(alloc, 0i64, rows_most));

@@ -18,7 +18,7 @@ pub(crate) struct WrittenRows {
 }
 
 impl WrittenRows {
-    /// Room for up to so many columns and rows. `NoMemory` where there is none.
+    /// Room for up to so many columns and rows. `NoMemory` where memory runs out.
     pub fn new(
         alloc: Global,
         columns_most: usize,

@@ -96,7 +96,7 @@ fn grain_for(case: &PackCase, claim: u64) -> u64 {
 }
 
 impl Attempts {
-    /// Room for the attempts at the cases of a chip. `NoMemory` where there is none.
+    /// Room for the attempts at the cases of a chip. `NoMemory` where memory runs out.
     pub fn new(alloc: Global, modules: usize, wires: usize) -> Result<Attempts, NoMemory> {
         let sides = both(
             Scheme::new(alloc, modules, wires),

@@ -23,7 +23,7 @@ pub struct PackLeaf {
 }
 
 impl PackLeaf {
-    /// No leaf. `NoMemory` where there is none.
+    /// No leaf. `NoMemory` where memory runs out.
     pub(crate) fn new(alloc: Global, modules: usize) -> Result<PackLeaf, NoMemory> {
         let prices = Prices::new(alloc, modules)?;
         Ok(PackLeaf {

@@ -42,7 +42,7 @@ pub(crate) fn part_mut(list: &mut [u64], from: usize, count: usize) -> &mut [u64
 }
 
 impl KnownSets {
-    /// Room for `most` sets. `NoMemory` where there is none.
+    /// Room for `most` sets. `NoMemory` where memory runs out.
     pub fn new(alloc: Global, modules: usize, most: usize) -> Result<KnownSets, NoMemory> {
         let words = words_of(modules);
         let taken = filled(alloc, false, most)?;

@@ -25,7 +25,7 @@ pub(crate) struct Layout {
 }
 
 impl Layout {
-    /// Room for a layout; it has no variables yet. `NoMemory` where there is none.
+    /// Room for a layout; it has no variables yet. `NoMemory` where memory runs out.
     pub fn new(alloc: Global) -> Result<Layout, NoMemory> {
         let rank_at = filled(alloc, NONE, RANKS_MOST)?;
         Ok(Layout {

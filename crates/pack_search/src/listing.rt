@@ -34,7 +34,7 @@ fn room_of<U: Uses>(uses: &U, list: usize, claim: u64) -> u64 {
 }
 
 impl Listing {
-    /// Room for lists; there are none yet. `NoMemory` where there is none.
+    /// Room for lists; there are none yet. `NoMemory` where memory runs out.
     pub fn new(alloc: Global) -> Result<Listing, NoMemory> {
         let places = filled(alloc, NONE, LISTS_MOST)?;
         let rooms = filled(alloc, 0u64, LISTS_MOST)?;

@@ -35,7 +35,7 @@ pub(crate) struct ModuleSet {
 }
 
 impl ModuleSet {
-    /// A set of no modules. `NoMemory` where there is none.
+    /// A set of no modules. `NoMemory` where memory runs out.
     pub fn new(alloc: Global, modules: usize) -> Result<ModuleSet, NoMemory> {
         let row = filled(alloc, 0u64, words_of(modules))?;
         Ok(ModuleSet {

@@ -29,7 +29,7 @@ pub struct PackSearch {
 }
 
 impl PackSearch {
-    /// Room for the cases of a chip of `modules` wired modules on `wires` wires. `NoMemory` where there is none.
+    /// Room for the cases of a chip of `modules` wired modules on `wires` wires. `NoMemory` where memory runs out.
     pub fn new(alloc: Global, modules: usize, wires: usize) -> Result<PackSearch, NoMemory> {
         let (attempts, kept) = both(
             Attempts::new(alloc, modules, wires),
@@ -105,11 +105,11 @@ impl PackSearch {
         self.attempts.begin_work(most);
         self.kept.grain = 0;
         let mut span = ClaimSpan::of(asked);
-        for turn in 0..tries {
+        for attempt in 0..tries {
             if !span.is_open() || self.attempts.work() >= most {
                 break;
             }
-            let claim = span.next(turn == 0);
+            let claim = span.next(attempt == 0);
             self.try_claim(case, uses, asked, &mut span, claim, warm);
         }
         if self.kept.grain > 0 {

@@ -48,7 +48,7 @@ fn part_of(number: u128, total: u128) -> i64 {
 }
 
 impl Point {
-    /// A point of no prices. `NoMemory` where there is none.
+    /// A point of no prices. `NoMemory` where memory runs out.
     pub fn new(alloc: Global, modules: usize) -> Result<Point, NoMemory> {
         let prices = filled(alloc, 0i64, modules)?;
         let worths = filled(alloc, 0i64, LISTS_MOST)?;

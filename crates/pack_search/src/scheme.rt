@@ -74,7 +74,7 @@ fn parts_of(alloc: Global, modules: usize) -> Result<(Listing, ModuleSet), NoMem
 
 impl Scheme {
     /// Room for the programmes of a chip. Where it has so many modules and wires that their rows would take more than 32 megabytes,
-    /// a programme keeps fewer rows. `NoMemory` where there is none.
+    /// a programme keeps fewer rows. `NoMemory` where memory runs out.
     pub fn new(alloc: Global, modules: usize, wires: usize) -> Result<Scheme, NoMemory> {
         let variables_most = variables_for(modules, wires);
         let rows_most = rows_within(variables_most);

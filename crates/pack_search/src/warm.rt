@@ -63,7 +63,7 @@ fn has_two(row: &[u64]) -> bool {
 }
 
 impl Warm {
-    /// Nothing was left yet for a chip of `modules` modules. `NoMemory` where there is none.
+    /// Nothing was left yet for a chip of `modules` modules. `NoMemory` where memory runs out.
     pub fn new(alloc: Global, modules: usize) -> Result<Warm, NoMemory> {
         let words = words_of(modules);
         let prices = filled(alloc, 0i64, modules)?;

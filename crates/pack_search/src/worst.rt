@@ -18,7 +18,7 @@ pub(crate) struct Worst {
 }
 
 impl Worst {
-    /// Room for as many as a round adds; there are none yet. `NoMemory` where there is none.
+    /// Room for as many as a round adds; there are none yet. `NoMemory` where memory runs out.
     pub fn new(alloc: Global) -> Result<Worst, NoMemory> {
         let places = filled(alloc, NONE, ADDED_MOST)?;
         let breaches = filled(alloc, 0i64, ADDED_MOST)?;

@@ -40,7 +40,7 @@ pub struct PackCase {
 }
 
 impl PackCase {
-    /// Room for the cases of a chip of `modules` wired modules on `wires` wires; all times are 0. `NoMemory` where there is none.
+    /// Room for the cases of a chip of `modules` wired modules on `wires` wires; all times are 0. `NoMemory` where memory runs out.
     pub fn new(alloc: Global, wires: usize, modules: usize) -> Result<PackCase, NoMemory> {
         let words = words_for(modules);
         let (times, own) = both(

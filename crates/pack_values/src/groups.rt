@@ -28,7 +28,7 @@ pub(crate) fn rank_of(case: &PackCase, range: usize) -> usize {
 }
 
 impl Groups {
-    /// Room for the cases of `modules` modules. `NoMemory` where there is none.
+    /// Room for the cases of `modules` modules. `NoMemory` where memory runs out.
     pub fn new(alloc: Global, modules: usize) -> Result<Groups, NoMemory> {
         let words = words_for(modules);
         let (group, turned) = both(

@@ -97,7 +97,7 @@ fn take_marked(
 }
 
 impl Knapsack {
-    /// Room for `modules` modules. `NoMemory` where there is none.
+    /// Room for `modules` modules. `NoMemory` where memory runs out.
     pub fn new(alloc: Global, modules: usize) -> Result<Knapsack, NoMemory> {
         let (open, picks) = both(
             filled(alloc, NO_ITEM, modules),

@@ -31,7 +31,7 @@ fn copy_all<T: Copy>(to: &mut [T], from: &[T]) {
 }
 
 impl Prices {
-    /// Prices of 0 for `modules` modules, and no weights. `NoMemory` where there is none.
+    /// Prices of 0 for `modules` modules, and no weights. `NoMemory` where memory runs out.
     pub fn new(alloc: Global, modules: usize) -> Result<Prices, NoMemory> {
         let prices = filled(alloc, 0u64, modules)?;
         let (lists, weights) = both(

@@ -44,7 +44,7 @@ const NO_BEST: BestSet = BestSet {
 };
 
 impl PackRoom {
-    /// Room for the cases of a chip of `modules` wired modules on `wires` wires. `NoMemory` where there is none.
+    /// Room for the cases of a chip of `modules` wired modules on `wires` wires. `NoMemory` where memory runs out.
     pub fn new(alloc: Global, modules: usize, wires: usize) -> Result<PackRoom, NoMemory> {
         let widths = wires.saturating_add(1);
         let (groups, offers) = both(Groups::new(alloc, modules), Offers::new(alloc, modules))?;

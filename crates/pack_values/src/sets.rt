@@ -43,7 +43,7 @@ pub(crate) struct Sets {
 }
 
 impl Sets {
-    /// Room for the sets of `modules` modules on `wires` wires. `NoMemory` where there is none.
+    /// Room for the sets of `modules` modules on `wires` wires. `NoMemory` where memory runs out.
     pub fn new(alloc: Global, modules: usize, wires: usize) -> Result<Sets, NoMemory> {
         let words = words_for(modules);
         let most = wires.saturating_add(1).saturating_mul(wires).min(SETS_MOST);

@@ -145,7 +145,7 @@ fn all_rows(alloc: Global, soc: &Soc, wires: u64) -> Result<Vec<ModuleTimes>, No
 }
 
 impl<'a> PackedTimes<'a> {
-    /// The packed times of a chip's live tests on each width from 1 to `wires`. `NoMemory` where there is none.
+    /// The packed times of a chip's live tests on each width from 1 to `wires`. `NoMemory` where memory runs out.
     pub fn new(alloc: Global, soc: &'a Soc, wires: u64) -> Result<PackedTimes<'a>, NoMemory>
         requires sound { IsSoundChip (soc_value soc.now) }
         requires some_wire { 1 ≤ wires }

@@ -50,7 +50,7 @@ fn even_share(cells: u64, width: usize) -> u64 {
 
 impl ModeCells {
     /// The scan chains and the cells of a mode of the module (the scan mode, or else the one over the terminals alone).
-    /// `NoMemory` where there is none.
+    /// `NoMemory` where memory runs out.
     pub fn new(alloc: Global, module: &Module, scan: bool) -> Result<ModeCells, NoMemory> {
         let order = longest_first(alloc, mode_chains(module, scan))?;
         let mut lengths = filled(alloc, 0u64, order.len())?;

@@ -147,7 +147,7 @@ impl<'a> WidthSearch<'a> {
 }
 
 /// The wrappers that are taken on 1 to `wires` wires, by some work, and the work that is left. At each width it is the one
-/// of the width before, where that takes no more cycles. `NoMemory` where there is none.
+/// of the width before, where that takes no more cycles. `NoMemory` where memory runs out.
 pub(crate) fn choices_of(
     alloc: Global,
     module: &Module,

@@ -23,7 +23,7 @@ pub(crate) struct Dealer {
 }
 
 impl Dealer {
-    /// A dealer with room for as many scan chains and wrapper chains, and with some work. `NoMemory` where there is none.
+    /// A dealer with room for as many scan chains and wrapper chains, and with some work. `NoMemory` where memory runs out.
     pub fn new(alloc: Global, scans: usize, chains: usize, work: u64) -> Result<Dealer, NoMemory> {
         let dealing = Dealing::new(alloc, scans, chains)?;
         let best = filled(alloc, 0usize, scans)?;
@@ -93,15 +93,15 @@ impl Dealer {
     /// Deals the scan chains over `width` chains: longest first and in equal counts, each with exchanges. It is over where the longest
     /// part is at most `low`, or where no work is left.
     pub fn deal_scans(&mut self, cells: &ModeCells, width: usize, low: u64) {
-        let turn = (cells.count() as u64).saturating_mul(width as u64);
+        let deal_work = (cells.count() as u64).saturating_mul(width as u64);
         self.part = u64::MAX;
         self.dealing.deal_longest_first(cells, width);
         self.keep_dealing(width);
-        if self.part <= low || !self.spend_work(turn) {
+        if self.part <= low || !self.spend_work(deal_work) {
             return;
         }
         self.exchange_scans(cells, width, low);
-        if self.part <= low || !self.spend_work(turn) {
+        if self.part <= low || !self.spend_work(deal_work) {
             return;
         }
         self.dealing.deal_equal_counts(cells, width);

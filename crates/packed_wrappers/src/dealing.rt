@@ -25,7 +25,7 @@ struct ChainGroup {
 }
 
 impl Dealing {
-    /// Room for as many scan chains and wrapper chains. `NoMemory` where there is none.
+    /// Room for as many scan chains and wrapper chains. `NoMemory` where memory runs out.
     pub fn new(alloc: Global, scans: usize, chains: usize) -> Result<Dealing, NoMemory> {
         let on = filled(alloc, 0usize, scans)?;
         let loads = filled(alloc, 0u64, chains)?;

@@ -62,7 +62,7 @@ impl<'a> Model for PackedWrappers<'a> {
 
 impl<'a> PackedWrappers<'a> {
     /// Takes the wrappers of all modules of a chip at all widths from 1 to `wires`, beside those of its width table. All work is
-    /// done here. `NoMemory` where there is none.
+    /// done here. `NoMemory` where memory runs out.
     pub fn new(
         alloc: Global,
         soc: &'a Soc,
@@ -91,7 +91,7 @@ impl<'a> PackedWrappers<'a> {
     }
 
     /// The wrapper for a mode of the module at a place on a bus of a width. The tests of the mode take no more cycles in it than in
-    /// the one of the width table. `NoMemory` where there is none.
+    /// the one of the width table. `NoMemory` where memory runs out.
     pub fn wrapper(
         &self,
         alloc: Global,

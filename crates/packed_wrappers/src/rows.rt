@@ -55,7 +55,7 @@ fn row_of(
     Ok((PackedRow { scan, terminals }, work))
 }
 
-/// The wrappers for all modules of a chip on 1 to `wires` wires. `NoMemory` where there is none.
+/// The wrappers for all modules of a chip on 1 to `wires` wires. `NoMemory` where memory runs out.
 pub(crate) fn rows_of(alloc: Global, soc: &Soc, wires: u64) -> Result<Vec<PackedRow>, NoMemory>
     requires sound { IsSoundChip (soc_value soc.now) }
     requires few { wires ≤ 256 }

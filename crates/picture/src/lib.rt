@@ -227,7 +227,7 @@ fn print_with(
 /// is free then; and, where power has a limit, the steps of what all tests draw, under the line of the limit. Thin lines stand at
 /// round cycles, with a scale of their numbers below all. Lines with numbers mark the last cycle and the bound. A plan of 0 cycles
 /// is the frame alone.
-/// `NoMemory` where there is none.
+/// `NoMemory` where memory runs out.
 pub fn print_picture(
     alloc: Global,
     limits: &Limits,
@@ -246,7 +246,7 @@ pub fn print_picture(
 }
 
 /// The picture of a good plan, as [`print_picture`] draws it, with a claim of a proof, in cycles, in the place of the plan's own bound.
-/// `NoMemory` where there is none.
+/// `NoMemory` where memory runs out.
 pub fn print_picture_of_claim(
     alloc: Global,
     limits: &Limits,

@@ -62,7 +62,7 @@ fn placed_of(room: PlanRooms) -> Placed
 }
 
 /// What a check of a plan for a problem finds: what the plan says by place, where it is good and its certificate accepted; else
-/// the fault that shows first, as [`check_plan`] answers it. `NoMemory` where there is none, and for no other reason.
+/// the fault that shows first, as [`check_plan`] answers it. `NoMemory` where memory runs out, and for no other reason.
 pub fn judge_plan(
     alloc: Global,
     problem: &Problem<'_>,

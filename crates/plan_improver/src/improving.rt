@@ -218,7 +218,7 @@ fn searched<T: Sink>(
 /// from a seed; the given plan where none is better. It is good, so that it runs right for every content, and its bound is
 /// the greater of the given one and of the best one at its cycles. Every number of it is in the range of a plan's text, where
 /// the given plan's starts are. From 100,000 tries on `progress` gets a line at each tenth of them, with the best cycles so far; where that
-/// fails nothing else changes. `NoMemory` where there is none.
+/// fails nothing else changes. `NoMemory` where memory runs out.
 pub fn improved<T: Sink>(
     alloc: Global,
     problem: &Problem<'_>,

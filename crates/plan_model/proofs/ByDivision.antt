@@ -11,9 +11,9 @@ use Rattle.plan_model.specs.Runs.{wanted}
 use Rattle.plan_model.proofs.OperationBlocks.{captures, capture_place, capture_at, capture_found, IsCaptured}
 use Rattle.plan_model.proofs.OperationCounts.{ops_length}
 use Rattle.plan_model.proofs.ChainShifts.{at_head, ahead_is}
-use Rattle.plan_model.specs.Moments.{IsMoment, phase_ops, wanted_by, turn_value}
+use Rattle.plan_model.specs.Moments.{IsMoment, phase_ops, wanted_by, near_capture}
 use Rattle.plan_model.specs.declared.moments.Phases.{Phases}
-use Rattle.plan_model.specs.declared.moments.Turn.{Turn}
+use Rattle.plan_model.specs.declared.moments.NearCapture.{NearCapture}
 use Rattle.plan_model.specs.declared.moments.Moment.TheVariants as moment
 use Rattle.common_lemmas.proofs.Numbers.{same_block}
 
@@ -136,9 +136,9 @@ capture_moment f n d k h at number =
     zero_suc e = cc
 
 -- what a Shift in a block is, from what stands behind it
-shift_from : (f : Phases) (n d r s : ℕ) (a : Option Turn) (rest : List Operation) → d < f.patterns → n ≡ f.setup + f.si + (d * (1 + max f.si f.so) + suc r) → suc r < 1 + max f.si f.so →
+shift_from : (f : Phases) (n d r s : ℕ) (a : Option NearCapture) (rest : List Operation) → d < f.patterns → n ≡ f.setup + f.si + (d * (1 + max f.si f.so) + suc r) → suc r < 1 + max f.si f.so →
     drop n (ops_of f.setup f.si f.so f.patterns) ≡ Shift ∷ (replicate s Shift ++ rest) →
-    ((stimulus : ℕ → Cell → Bool) (cells : List Cell) → wanted stimulus cells (Shift ∷ (replicate s Shift ++ rest)) ≡ wanted_by stimulus cells (option_map turn_value a)) →
+    ((stimulus : ℕ → Cell → Bool) (cells : List Cell) → wanted stimulus cells (Shift ∷ (replicate s Shift ++ rest)) ≡ wanted_by stimulus cells (option_map near_capture a)) →
     IsMoment f n (moment.Shift a (Some (record { shifts = r; pattern = suc d })))
 shift_from f n d r s a rest h at within from wants = record {
   operation = (at_head (ops_of f.setup f.si f.so f.patterns) n Shift _ from).0;
@@ -162,7 +162,7 @@ all_shifts : (s : ℕ) → ahead (replicate s Shift ++ []) ≡ None
 all_shifts zero = refl
 all_shifts (suc s) = rw (all_shifts s) refl
 
-pub shift_moment : (f : Phases) (n d r : ℕ) (a : Option Turn) → d < f.patterns → n ≡ f.setup + f.si + (d * (1 + max f.si f.so) + suc r) → r < cond (ltb (suc d) f.patterns) (max f.si f.so) f.so →
+pub shift_moment : (f : Phases) (n d r : ℕ) (a : Option NearCapture) → d < f.patterns → n ≡ f.setup + f.si + (d * (1 + max f.si f.so) + suc r) → r < cond (ltb (suc d) f.patterns) (max f.si f.so) f.so →
     a ≡ cond (ltb (suc d) f.patterns) (Some (record { shifts = max f.si f.so - suc r; pattern = suc (suc d) })) None →
     IsMoment f n (moment.Shift a (Some (record { shifts = r; pattern = suc d })))
 shift_moment f n d r a h at within is = go (cases_lt (suc d) f.patterns) where
@@ -249,7 +249,7 @@ capture_at_division f cycle w some active wide none =
     let place = p.parts in
     capture_moment f (f.setup + f.si + cycle) (cycle / (1 + w)) (cycle / (1 + w) + 1) p.below (omega (arith, place, none)) refl
 
-pub shift_at_division : (f : Phases) (cycle w : ℕ) (a : Option Turn) → 1 ≤ f.patterns → f.setup + f.si + cycle < length (phase_ops f) → w ≡ max f.si f.so → (cycle % (1 + w) ≡ 0 → ⊥) →
+pub shift_at_division : (f : Phases) (cycle w : ℕ) (a : Option NearCapture) → 1 ≤ f.patterns → f.setup + f.si + cycle < length (phase_ops f) → w ≡ max f.si f.so → (cycle % (1 + w) ≡ 0 → ⊥) →
     a ≡ cond (ltb (suc (cycle / (1 + w))) f.patterns) (Some (record { shifts = 1 + w - 1 - cycle % (1 + w); pattern = suc (suc (cycle / (1 + w))) })) None →
     IsMoment f (f.setup + f.si + cycle) (moment.Shift a (Some (record { shifts = cycle % (1 + w) - 1; pattern = cycle / (1 + w) + 1 })))
 shift_at_division f cycle w a some active wide not_zero is =

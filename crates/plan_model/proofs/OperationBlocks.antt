@@ -58,17 +58,17 @@ block_here s t si so k rest i o = record {
 
 -- where a Capture stands, which it is, and its block
 pub record Found (ops : List Operation) (si so b s k m n c : ℕ) : Type 0 where
-  pub turn : ℕ
-  pub within : turn ≤ m
-  pub pattern : c ≡ k + turn
-  pub place : n ≡ s + turn * (1 + b)
+  pub round : ℕ
+  pub within : round ≤ m
+  pub pattern : c ≡ k + round
+  pub place : n ≡ s + round * (1 + b)
   pub block : Block ops si so n c
 
 -- a block of what follows a Capture, its place, and its number
 pub found_later : (tail : List Operation) (si so b s k m i n c : ℕ) → n ≡ s + suc i → Found tail si so b b (k + 1) m i c →
     Found (replicate s Shift ++ (Capture k ∷ tail)) si so b s k (suc m) n c
 found_later tail si so b s k m i n c at f = record {
-  turn = suc f.turn;
+  round = suc f.round;
   within = omega (arith, f.within);
   pattern = omega (arith, f.pattern);
   place = omega (arith, f.place);
@@ -84,7 +84,7 @@ found_here t si so b s k m n c rest at e i o =
     let same : k ≡ c = cc in
     let here : s ≡ n = omega arith in
     record {
-      turn = 0;
+      round = 0;
       within = omega arith;
       pattern = omega arith;
       place = omega arith;
@@ -169,8 +169,8 @@ captured_from setup si so m n k i at f = record {
   first = omega (arith, f.pattern);
   last = omega (arith, f.pattern, f.within);
   place =
-      let turn : k - 1 ≡ f.turn = omega (arith, f.pattern) in
-      rw turn (omega (arith, at, f.place));
+      let round : k - 1 ≡ f.round = omega (arith, f.pattern) in
+      rw round (omega (arith, at, f.place));
   block =
       let whole : replicate setup Setup ++ (replicate si Shift ++ captures (max si so) so (suc m) 1 (suc m)) ≡ ops_of setup si so (suc m) = sym (ops_split setup si so (suc m)) in
       subst (λ v. Block v si so n k) whole (block_past (replicate setup Setup) (replicate si Shift ++ captures (max si so) so (suc m) 1 (suc m)) si so i k n (omega (arith, length-replicate setup Setup, at)) f.block);
@@ -189,7 +189,7 @@ pub capture_at : (setup si so p k : ℕ) → 1 ≤ k → k ≤ p → slice_get (
 capture_at setup si so p zero a b = absurd (omega arith)
 capture_at setup si so zero (suc d) a b = absurd (omega arith)
 capture_at setup si so (suc m) (suc d) a b =
-    let turn : suc d - 1 ≡ d = omega arith in
+    let round : suc d - 1 ≡ d = omega arith in
     let number : 1 + d ≡ suc d = omega arith in
-    rw (ops_split setup si so (suc m), turn) (slice_get_past_setup setup (si + d * (1 + max si so)) (setup + si + d * (1 + max si so)) (replicate si Shift ++ captures (max si so) so (suc m) 1 (suc m)) (omega arith)
+    rw (ops_split setup si so (suc m), round) (slice_get_past_setup setup (si + d * (1 + max si so)) (setup + si + d * (1 + max si so)) (replicate si Shift ++ captures (max si so) so (suc m) 1 (suc m)) (omega arith)
     ∙ captures_at (max si so) so (suc m) d m 1 si (si + d * (1 + max si so)) (omega arith) (omega arith) refl ∙ rw number refl)

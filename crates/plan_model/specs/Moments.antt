@@ -3,7 +3,7 @@ use Rattle.std.specs.Prelude.{◌≡◌, ℕ, ◌+◌, ◌^◌, ◌<◌, ◌≤�
 use Rattle.plan_model.specs.Cells.{Cell, In, in_length}
 use Rattle.plan_model.specs.Operations.{Operation, Setup, Shift, Capture, ops_of}
 use Rattle.plan_model.specs.Runs.{wanted}
-use Rattle.plan_model.specs.declared.moments.Turn.{Turn}
+use Rattle.plan_model.specs.declared.moments.NearCapture.{NearCapture}
 use Rattle.plan_model.specs.declared.moments.Moment.{Moment}
 use Rattle.plan_model.specs.declared.moments.Moment.TheVariants as moment
 use Rattle.plan_model.specs.declared.moments.Phases.{Phases}
@@ -13,8 +13,8 @@ abbrev pub phase_ops : Phases → List Operation
 phase_ops p = ops_of p.setup p.si p.so p.patterns
 
 -- the capture that is some Shifts away
-abbrev pub turn_value : Turn → ℕ × ℕ
-turn_value t = (t.shifts, t.pattern)
+abbrev pub near_capture : NearCapture → ℕ × ℕ
+near_capture t = (t.shifts, t.pattern)
 
 abbrev pub moment_operation : Moment → Operation
 moment_operation moment.Setup = Setup
@@ -24,12 +24,12 @@ moment_operation (moment.Capture k) = Capture k
 -- the next capture, where it lies ahead of Shifts alone, and the one before
 abbrev pub moment_ahead : Moment → Option (ℕ × ℕ)
 moment_ahead moment.Setup = None
-moment_ahead (moment.Shift a b) = option_map turn_value a
+moment_ahead (moment.Shift a b) = option_map near_capture a
 moment_ahead (moment.Capture k) = None
 
 abbrev pub moment_behind : Moment → Option (ℕ × ℕ)
 moment_behind moment.Setup = None
-moment_behind (moment.Shift a b) = option_map turn_value b
+moment_behind (moment.Shift a b) = option_map near_capture b
 moment_behind (moment.Capture k) = None
 
 -- the bit that a chain wants at a Shift, given the number of Shifts between it and the next capture, and the pattern of that

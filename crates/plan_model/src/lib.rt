@@ -15,7 +15,7 @@ pub use laws::{
     certificates_are_bounds, faults_are_exact, good_plans_run_right, good_without_limits,
     law_of_one_test, lower_times_are_least, tests_are_short,
 };
-pub use moments::{Moment, Phases, Turn};
+pub use moments::{Moment, NearCapture, Phases};
 pub use places::{bus_of, lists_module, profile_of, wrapper_of};
 use soc_model::TestId;
 pub use times::closed_time;

@@ -1,11 +1,11 @@
 //! What a test over the wires does at a cycle, by division: its cycles are the setup, the Shifts before the first capture, and
 //! then one block after another of a capture and the Shifts after it.
 ghost use Rattle.std.specs.Prelude.{◌≡◌, ◌+◌, ◌^◌, ◌<◌, suc, Some, None, cond, length, nat_lt, option_map};
-ghost use Rattle.plan_model.specs.Moments.{phase_ops, turn_value, moment_ahead, moment_behind, IsMoment, ArePhases};
+ghost use Rattle.plan_model.specs.Moments.{phase_ops, near_capture, moment_ahead, moment_behind, IsMoment, ArePhases};
 
 /// A capture that lies some Shifts ahead, or behind.
 #[derive(Clone, Copy, PartialEq, Eq, Debug)]
-pub struct Turn {
+pub struct NearCapture {
     /// The Shifts between.
     pub shifts: u64,
     /// The pattern that is captured, counted from 1.
@@ -19,8 +19,8 @@ pub enum Moment {
     Setup,
     /// Every bit moves one place on, between a capture ahead and one behind.
     Shift {
-        ahead: Option<Turn>,
-        behind: Option<Turn>,
+        ahead: Option<NearCapture>,
+        behind: Option<NearCapture>,
     },
     /// The capture of a pattern, counted from 1.
     Capture {
@@ -30,8 +30,8 @@ pub enum Moment {
 
 impl Moment {
     /// The capture ahead, where Shifts alone lie before it.
-    pub fn ahead(self) -> Option<Turn>
-        ensures { option_map turn_value result ≡ moment_ahead self }
+    pub fn ahead(self) -> Option<NearCapture>
+        ensures { option_map near_capture result ≡ moment_ahead self }
     {
         match self {
             Moment::Shift { ahead, .. } => ahead,
@@ -40,8 +40,8 @@ impl Moment {
     }
 
     /// The capture behind, where Shifts alone lie after it.
-    pub fn behind(self) -> Option<Turn>
-        ensures { option_map turn_value result ≡ moment_behind self }
+    pub fn behind(self) -> Option<NearCapture>
+        ensures { option_map near_capture result ≡ moment_behind self }
     {
         match self {
             Moment::Shift { behind, .. } => behind,
@@ -88,7 +88,7 @@ impl Phases {
         requires active { shifted < self.now.si }
         ensures { IsMoment self.now (self.now.setup + shifted) result }
     {
-        let ahead = Turn {
+        let ahead = NearCapture {
             shifts: self.si - 1 - shifted,
             pattern: 1,
         };
@@ -111,7 +111,7 @@ impl Phases {
             return Moment::Capture { pattern: block + 1 };
         }
         let ahead = self.capture_after(block, period - 1 - place);
-        let behind = Turn {
+        let behind = NearCapture {
             shifts: place - 1,
             pattern: block + 1,
         };
@@ -122,14 +122,14 @@ impl Phases {
     }
 
     /// The capture that comes `shifts` Shifts later, after a block.
-    fn capture_after(&self, block: u64, shifts: u64) -> Option<Turn>
+    fn capture_after(&self, block: u64, shifts: u64) -> Option<NearCapture>
         requires { block + 2 < 2 ^ 64 }
         ensures { result
             ≡ cond (nat_lt (suc block) self.now.patterns)
             (Some (record { shifts = shifts; pattern = suc (suc block) })) None }
     {
         if block + 1 < self.patterns {
-            Some(Turn {
+            Some(NearCapture {
                 shifts,
                 pattern: block + 2,
             })

@@ -253,7 +253,7 @@ fn job_resolved(alloc: Global, parts: &JobSource<'_>, resolved: &Resolved) -> Re
 }
 
 /// The job of a problem's live tests, each with the cycles that it takes in the wrappers and the bus that it goes over. It is
-/// a sound job. `NoMemory` where there is none.
+/// a sound job. `NoMemory` where memory runs out.
 pub fn job_with(
     alloc: Global,
     problem: &Problem<'_>,

@@ -64,7 +64,7 @@ fn found_schedule<F: Fn(&Table<'_>, usize) -> u64>(
     })
 }
 
-/// The list schedule of the order of the live tests that the search finds, over a wiring. `NoMemory` where there is none.
+/// The list schedule of the order of the live tests that the search finds, over a wiring. `NoMemory` where memory runs out.
 pub(crate) fn schedule_of<F: Fn(&Table<'_>, usize) -> u64>(
     alloc: Global,
     problem: &Problem<'_>,

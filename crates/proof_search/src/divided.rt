@@ -15,7 +15,7 @@ pub(crate) struct DividedCase {
 }
 
 impl DividedCase {
-    /// No weights of a case of no ranks. `NoMemory` where there is none.
+    /// No weights of a case of no ranks. `NoMemory` where memory runs out.
     pub fn new(alloc: Global) -> Result<DividedCase, NoMemory> {
         let weights = LeafWeights::new(alloc)?;
         let low = filled(alloc, 0usize, RANKS_MOST)?;

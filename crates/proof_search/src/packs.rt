@@ -101,7 +101,7 @@ fn front<T>(list: &[T], count: usize) -> &[T] {
 }
 
 impl PackedCase {
-    /// Room for the cases of a chip. `NoMemory` where there is none.
+    /// Room for the cases of a chip. `NoMemory` where memory runs out.
     fn new(alloc: Global, basis: &LeafBasis) -> Result<PackedCase, NoMemory> {
         let modules = basis.chip.modules;
         let mut case = PackCase::new(alloc, basis.chip.wires, modules)?;
@@ -147,7 +147,7 @@ impl PackedCase {
 }
 
 impl NodePacks {
-    /// Room for the leaves Pack of `nodes_most` nodes. `NoMemory` where there is none.
+    /// Room for the leaves Pack of `nodes_most` nodes. `NoMemory` where memory runs out.
     pub fn new(alloc: Global, basis: &LeafBasis, nodes_most: usize) -> Result<NodePacks, NoMemory> {
         let (modules, goal) = (basis.chip.modules, basis.chip.goal);
         let mut first = NO_NOTE;

@@ -42,7 +42,7 @@ fn is_before(entries: &[NodeEntry], a: usize, b: usize) -> bool {
 }
 
 impl NodeQueue {
-    /// Room for `nodes` open nodes. `NoMemory` where there is none.
+    /// Room for `nodes` open nodes. `NoMemory` where memory runs out.
     pub fn new(alloc: Global, nodes: usize) -> Result<NodeQueue, NoMemory> {
         let heap = filled(alloc, 0usize, nodes)?;
         Ok(NodeQueue { heap, count: 0 })

@@ -106,7 +106,7 @@ impl Search {
         Search::over(alloc, chip, nodes, packs)
     }
 
-    /// A search over the tables of a chip. `NoMemory` where there is none.
+    /// A search over the tables of a chip. `NoMemory` where memory runs out.
     fn over(alloc: Global, chip: ChipTables, nodes: u64, packs: bool) -> Result<Search, NoMemory> {
         let basis = LeafBasis::new(alloc, chip)?;
         let weighing = CaseWeighing::new(alloc, &basis.chip);
@@ -117,7 +117,7 @@ impl Search {
         Ok(search)
     }
 
-    /// A search of no nodes yet. `NoMemory` where there is none.
+    /// A search of no nodes yet. `NoMemory` where memory runs out.
     fn with(
         alloc: Global,
         basis: LeafBasis,
@@ -525,7 +525,7 @@ impl Search {
         }
     }
 
-    /// The proof of the claim so far. `NoMemory` where there is none.
+    /// The proof of the claim so far. `NoMemory` where memory runs out.
     pub fn proof(&self, alloc: Global) -> Result<Proof, NoMemory> {
         let names = ProofNames {
             chip: &self.basis.chip,
@@ -542,7 +542,7 @@ impl Search {
     }
 
     /// Ends the search and begins one for the claim of its goal, of as many nodes, that looks for no leaves Pack. Only the tables of the
-    /// chip are kept. `NoMemory` where there is none.
+    /// chip are kept. `NoMemory` where memory runs out.
     pub fn plain_again(self, alloc: Global) -> Result<Search, NoMemory> {
         let nodes = self.nodes;
         Search::over(alloc, self.into_chip(), nodes, false)

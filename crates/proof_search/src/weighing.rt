@@ -99,7 +99,7 @@ impl ListFinder {
         powers || lists
     }
 
-    /// Chooses the elementary lists. `NoMemory` where there is none.
+    /// Chooses the elementary lists. `NoMemory` where memory runs out.
     fn choose_elementary(&mut self, alloc: Global, basis: &mut LeafBasis) -> Result<(), NoMemory> {
         self.chosen.clear_choice();
         if basis.powers.count > 0 {
@@ -158,7 +158,7 @@ impl CandidateWeights {
 }
 
 impl CaseWeighing {
-    /// Room for the cases of a chip. `NoMemory` where there is none.
+    /// Room for the cases of a chip. `NoMemory` where memory runs out.
     pub fn new(alloc: Global, chip: &ChipTables) -> Result<CaseWeighing, NoMemory> {
         let cases = both(
             Case::new(alloc, chip.wires, chip.modules),
@@ -296,7 +296,7 @@ impl CaseWeighing {
         best
     }
 
-    /// What the case of no ranks is worth: at least as much as the elementary lists. `NoMemory` where there is none.
+    /// What the case of no ranks is worth: at least as much as the elementary lists. `NoMemory` where memory runs out.
     pub fn weigh_first(
         &mut self,
         alloc: Global,

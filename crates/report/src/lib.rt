@@ -121,7 +121,7 @@ fn print_placed(
 /// power with its first cycle, and the limit; for each bus its wires, tests, and busy and idle cycles; for each module with a test over
 /// the wires its bus and its cycles, the least width of a bus on which it takes no more, and the least greater width on which it takes
 /// fewer, with these. Then come the test that ends last, the test that ended as it started and kept it from starting before, with the
-/// reason, and so on back to one that nothing held. `NoMemory` where there is none.
+/// reason, and so on back to one that nothing held. `NoMemory` where memory runs out.
 pub fn print_report(
     alloc: Global,
     limits: &Limits,

@@ -176,8 +176,8 @@ put_over_part {X} items lent ys place spare len y same count le lt is =
     rest : drop place lent ≡ drop place items
     rest = ap (drop place) same
 
-    turn : ℕ → List X → List X
-    turn k v = drop k v ++ take k v
+    rotated : ℕ → List X → List X
+    rotated k v = drop k v ++ take k v
 
     part_is : take (spare + 1 - place) (drop place lent) ≡ take (n + 1) (drop place items)
     part_is = ap (λ k. take k (drop place lent)) width ∙ ap (take (n + 1)) rest
@@ -189,7 +189,7 @@ put_over_part {X} items lent ys place spare len y same count le lt is =
     short = omega (arith, ap length part_is, part_long)
 
     ys_is : ys ≡ drop n (take (n + 1) (drop place items)) ++ take n (take (n + 1) (drop place items))
-    ys_is = is ∙ ap (λ k. turn k (take (spare + 1 - place) (drop place lent))) short ∙ ap (turn n) part_is
+    ys_is = is ∙ ap (λ k. rotated k (take (spare + 1 - place) (drop place lent))) short ∙ ap (rotated n) part_is
 
     whole_is : whole ≡ take place items ++ (ys ++ drop (n + 1) (drop place items))
     whole_is = ap (λ v. take place v ++ (ys ++ drop (spare + 1 - place) (drop place v))) same ∙ ap (λ k. take place items ++ (ys ++ drop k (drop place items))) width

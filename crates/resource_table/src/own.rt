@@ -28,7 +28,7 @@ impl<J> Model for OwnTable<J> {
 }
 
 impl<'a> OwnTable<&'a Job> {
-    /// An empty table of a sound job. All memory that it ever takes is taken here; `NoMemory` where there is none.
+    /// An empty table of a sound job. All memory that it ever takes is taken here; `NoMemory` where memory runs out.
     pub fn new(alloc: Global, job: &'a Job) -> Result<OwnTable<&'a Job>, NoMemory>
         requires { IsSoundJob (job_value job.now) }
         ensures empty { IfOk result (λ t. t ≡ record { job = job_value job.now; placed = [] }) }

@@ -258,7 +258,7 @@ fn send_over(tests: &mut [JobTest], buses: &[Option<usize>], lengths: &[u64])
 }
 
 impl<'a> TableOf<&'a Job> {
-    /// An empty table of a sound job. All memory that it ever takes is taken here; `NoMemory` where there is none.
+    /// An empty table of a sound job. All memory that it ever takes is taken here; `NoMemory` where memory runs out.
     pub fn new(alloc: Global, job: &'a Job) -> Result<Table<'a>, NoMemory>
         requires { IsSoundJob (job_value job.now) }
         ensures empty { IfOk result (λ t. t ≡ record { job = job_value job.now; placed = [] }) }

@@ -245,7 +245,7 @@ fn after_alone(lines: &[Timeline], place: Option<usize>, length: u64, start: u64
     requires last { last + length < 2 ^ 63 }
     requires starts { (k : ℕ) (line : Timeline) → slice_get lines.now k ≡ Some line →
         IsNonDecreasingBy (λ (s : Span). s.from) line.spans.items }
-    requires turns { (k : ℕ) (line : Timeline) → slice_get lines.now k ≡ Some line →
+    requires in_order { (k : ℕ) (line : Timeline) → slice_get lines.now k ≡ Some line →
         IsNonDecreasingBy (λ (s : Span). s.to) line.spans.items }
     requires ends { (k : ℕ) (line : Timeline) → slice_get lines.now k ≡ Some line →
         All (λ (s : Span). s.to ≤ last) line.spans.items }

@@ -41,7 +41,7 @@ impl From<NoMemory> for SampleFault {
     }
 }
 
-/// Adds a module last. `NoMemory` where there is none for it.
+/// Adds a module last. `NoMemory` where memory runs out for it.
 fn add_module(soc: &mut Soc, module: Module) -> Result<(), NoMemory>
     requires new { has_module_number (soc_value soc.old) «module».number ≡ false }
     ensures { OnOk result (soc_value soc.new ≡ record (soc_value soc.old) {

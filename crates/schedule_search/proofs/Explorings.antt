@@ -100,9 +100,9 @@ explored_entered job budget more path p q entered open_ going short =
     subst (λ (x : Progress). Explored job budget (path ∷ []) (stand_of p) (stand_of x)) (sym entered)
     (entered_here job budget path (stand_of p) open_ going (λ topological. short (topological_long job path topological)))
 
-pub turn : (job : JobValue) (budget more : ℕ) (path : List ℕ) (place test : ℕ) (a b c : Stand) → place < length (followers job path) → test ≡ get_or (followers job path) place 0 → b.refused ≡ false
+pub taken_out : (job : JobValue) (budget more : ℕ) (path : List ℕ) (place test : ℕ) (a b c : Stand) → place < length (followers job path) → test ≡ get_or (followers job path) place 0 → b.refused ≡ false
     → Explored job budget (tried job more path place) a b → Explored job budget (walk_from job more (path ++ test ∷ [])) b c → Explored job budget (tried job more path (place + 1)) a c
-turn job budget more path place test a b c within at going one two =
+taken_out job budget more path place test a b c within at going one two =
     subst (λ (ws : List (List ℕ)). Explored job budget ws a c) (sym (tried_more job more path place within))
     (joined job budget (tried job more path place) (walk_from job more (path ++ get_or (followers job path) place 0 ∷ [])) a b c going one (subst (λ (n : ℕ). Explored job budget (walk_from job more (path ++ n ∷ [])) b c) at two))
 

@@ -23,4 +23,4 @@ pub mod WalkCounts
 pub mod Agreeing
 pub mod Estimates
 mod Rows
-pub mod Turns
+pub mod SortedTests

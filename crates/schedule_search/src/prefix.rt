@@ -4,7 +4,7 @@ ghost use Rattle.std.specs.List.{All, filter, remove};
 ghost use Rattle.resource_table.specs.Jobs.{job_value};
 ghost use Rattle.schedule_search.specs.Walks.{is_in};
 ghost use Rattle.schedule_search.specs.Prefixes.{outside, followers, all_free, times_in, AreApart, AreLess, AreInRange, AreSorted, HasPrefixRoom, IsAt, IsOut};
-ghost use Rattle.schedule_search.specs.Taken.{IsTurn};
+ghost use Rattle.schedule_search.specs.Taken.{IsTakenOut};
 ghost use Rattle.schedule_search.specs.Progress.{AreTries};
 
 use crate::lists::{copy_to, put_at, put_for, room_for, take_at};
@@ -215,7 +215,7 @@ impl Prefix {
         requires at { IsAt (job_value job.now) self.old.tests.items self.old }
         requires within { place < length self.old.free.items }
         ensures out { IsOut (job_value job.now) self.old.tests.items result.test self.new }
-        ensures turn { IsTurn (job_value job.now) self.old.tests.items place result }
+        ensures taken_out { IsTakenOut (job_value job.now) self.old.tests.items place result }
     {
         let test = take_at(&mut self.free, place);
         let left = place_left(job, &self.rest, place, test);
@@ -274,10 +274,10 @@ impl Prefix {
     /// Puts the test that is out back to its place among the free ones, and takes the one behind it out.
     fn exchange(&mut self, job: &Job, place: usize, taken: TakenOut) -> TakenOut
         requires out { IsOut (job_value job.now) self.old.tests.items taken.test self.old }
-        requires turn { IsTurn (job_value job.now) self.old.tests.items place taken }
+        requires taken_out { IsTakenOut (job_value job.now) self.old.tests.items place taken }
         requires more { place < length self.old.free.items }
         ensures out { IsOut (job_value job.now) self.old.tests.items result.test self.new }
-        ensures turn { IsTurn (job_value job.now) self.old.tests.items (place + 1) result }
+        ensures taken_out { IsTakenOut (job_value job.now) self.old.tests.items (place + 1) result }
     {
         let test = put_for(&mut self.free, place, taken.test);
         let left = pass_left(job, &mut self.rest, taken.left, taken.test, test);
@@ -287,7 +287,7 @@ impl Prefix {
     /// Puts the test that is out back to its place among the free ones.
     fn put_back(&mut self, job: &Job, place: usize, taken: TakenOut)
         requires out { IsOut (job_value job.now) self.old.tests.items taken.test self.old }
-        requires turn { IsTurn (job_value job.now) self.old.tests.items place taken }
+        requires taken_out { IsTakenOut (job_value job.now) self.old.tests.items place taken }
         ensures { IsAt (job_value job.now) self.old.tests.items self.new }
     {
         put_at(&mut self.free, place, taken.test);
@@ -297,11 +297,12 @@ impl Prefix {
     /// Puts the test that is out back to its place among the free ones. Where there is one behind it, that is taken out.
     pub(crate) fn pass(&mut self, job: &Job, place: usize, taken: TakenOut) -> TakenOut
         requires out { IsOut (job_value job.now) self.old.tests.items taken.test self.old }
-        requires turn { IsTurn (job_value job.now) self.old.tests.items place taken }
+        requires taken_out { IsTakenOut (job_value job.now) self.old.tests.items place taken }
         ensures out { place + 1 < length (followers (job_value job.now) self.old.tests.items) →
             IsOut (job_value job.now) self.old.tests.items result.test self.new }
-        ensures turn { place + 1 < length (followers (job_value job.now) self.old.tests.items) →
-            IsTurn (job_value job.now) self.old.tests.items (place + 1) result }
+        ensures taken_out { place + 1
+            < length (followers (job_value job.now) self.old.tests.items) →
+            IsTakenOut (job_value job.now) self.old.tests.items (place + 1) result }
         ensures back { place + 1 ≡ length (followers (job_value job.now) self.old.tests.items) →
             IsAt (job_value job.now) self.old.tests.items self.new }
     {

@@ -248,7 +248,7 @@ fn kept_for<'a>(
 
 impl<'a, F: Fn(&Table<'_>, usize) -> u64> Search<'a, F> {
     /// A search over a sound job that may enter `budget` prefixes of orders. All memory that it ever takes is taken here;
-    /// `NoMemory` where there is none.
+    /// `NoMemory` where memory runs out.
     pub fn new(
         alloc: Global,
         job: &'a Job,

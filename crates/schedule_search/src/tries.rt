@@ -39,26 +39,27 @@ pub(crate) struct TriedTest {
 }
 
 /// The tests of a job by their cycles and places, in the order in which they are tried.
-fn sorted_turns(alloc: Global, job: &Job) -> Result<Vec<TriedTest>, NoMemory>
-    ensures { IfOk result
-        (λ turns. map (λ (t : TriedTest). t.place) turns.items ≡ by_length_of (job_value job.now)) }
+fn sorted_by_length(alloc: Global, job: &Job) -> Result<Vec<TriedTest>, NoMemory>
+    ensures { IfOk result (λ by_length. map (λ (t : TriedTest). t.place) by_length.items
+        ≡ by_length_of (job_value job.now)) }
 {
-    let mut turns = Vec::new(alloc);
+    let mut by_length = Vec::new(alloc);
     for place in 0..job.tests.len() {
         let cycles = Reverse(cycles_at(job, place));
-        push(&mut turns, TriedTest { cycles, place })?;
+        push(&mut by_length, TriedTest { cycles, place })?;
     }
-    turns.sort_unstable();
-    Ok(turns)
+    by_length.sort_unstable();
+    Ok(by_length)
 }
 
 /// The places of tests.
-fn places_of(alloc: Global, turns: &[TriedTest]) -> Result<Vec<usize>, NoMemory>
-    ensures { IfOk result (λ places. places.items ≡ map (λ (t : TriedTest). t.place) turns.now) }
+fn places_of(alloc: Global, by_length: &[TriedTest]) -> Result<Vec<usize>, NoMemory>
+    ensures { IfOk result
+        (λ places. places.items ≡ map (λ (t : TriedTest). t.place) by_length.now) }
 {
     let mut places = Vec::new(alloc);
-    for turn in turns {
-        push(&mut places, turn.place)?;
+    for tried in by_length {
+        push(&mut places, tried.place)?;
     }
     Ok(places)
 }
@@ -67,8 +68,8 @@ fn places_of(alloc: Global, turns: &[TriedTest]) -> Result<Vec<usize>, NoMemory>
 fn by_length(alloc: Global, job: &Job) -> Result<Vec<usize>, NoMemory>
     ensures { IfOk result (λ tests. tests.items ≡ by_length_of (job_value job.now)) }
 {
-    let turns = sorted_turns(alloc, job)?;
-    places_of(alloc, &turns)
+    let by_length = sorted_by_length(alloc, job)?;
+    places_of(alloc, &by_length)
 }
 
 /// For each test of a job those that it precedes.
@@ -109,7 +110,7 @@ fn most_power(tests: &[JobTest]) -> u64 {
     most
 }
 
-/// What the walk over the orders of a job goes by. `NoMemory` where there is none.
+/// What the walk over the orders of a job goes by. `NoMemory` where memory runs out.
 pub(crate) fn tries_of(alloc: Global, job: &Job, budget: u64) -> Result<OrderTables, NoMemory>
     requires { IsSoundJob (job_value job.now) }
     ensures tries { IfOk result (AreTries (job_value job.now)) }

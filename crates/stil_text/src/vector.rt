@@ -35,7 +35,7 @@ impl StilForm {
     ghost use Rattle.stil_text.specs.StilText.{control_bits, wire_bits};
     ghost use Rattle.cycle_forms.specs.Rows.{HasSizes, IsPutAt, row_of};
 
-    /// The STIL form of the run of a plan of a sound chip. `NoMemory` where there is none.
+    /// The STIL form of the run of a plan of a sound chip. `NoMemory` where memory runs out.
     pub fn new(alloc: Global, soc: &Soc, plan: &Plan) -> Result<StilForm, NoMemory>
         requires sound { IsSoundChip (soc_value soc.now) }
         requires narrow { sum (widths (plan_value plan.now)) ≤ 256 }

@@ -12,7 +12,7 @@ use std::alloc::Global;
 /// No place.
 pub const NONE: usize = usize::MAX;
 
-/// `count` copies of an item. `NoMemory` where there is none.
+/// `count` copies of an item. `NoMemory` where memory runs out.
 pub fn filled<T: Copy>(alloc: Global, item: T, count: usize) -> Result<Vec<T>, NoMemory>
     ensures { IfOk result (λ list. length list.items ≡ count) }
 {

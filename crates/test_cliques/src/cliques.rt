@@ -29,7 +29,7 @@ pub struct Cliques {
 }
 
 impl Cliques {
-    /// Room for the search over so many tests. `NoMemory` where there is none.
+    /// Room for the search over so many tests. `NoMemory` where memory runs out.
     pub fn new(alloc: Global, tests: usize) -> Result<Cliques, NoMemory> {
         let vertices = both(
             Graph::new(alloc, tests),

@@ -53,7 +53,7 @@ fn lightness_of(powers: MixedPowers<'_>, test: usize) -> i64 {
 }
 
 impl Crowds {
-    /// Room for the search over tests that draw so much at least. `NoMemory` where there is none.
+    /// Room for the search over tests that draw so much at least. `NoMemory` where memory runs out.
     pub fn new(alloc: Global, least: &[u64]) -> Result<Crowds, NoMemory> {
         let light = filled(alloc, Light::NOTHING, least.len())?;
         let taken = filled(alloc, NONE, least.len())?;

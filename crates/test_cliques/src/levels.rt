@@ -55,7 +55,7 @@ pub(crate) struct Classes {
 }
 
 impl Levels {
-    /// Room for the levels of graphs of so many tests. `NoMemory` where there is none.
+    /// Room for the levels of graphs of so many tests. `NoMemory` where memory runs out.
     pub fn new(alloc: Global, tests: usize) -> Result<Levels, NoMemory> {
         let most = tests.saturating_add(1);
         let room = most.saturating_mul(words_for(tests));
@@ -92,7 +92,7 @@ impl Levels {
 }
 
 impl Classes {
-    /// Room for the classes of graphs of so many tests. `NoMemory` where there is none.
+    /// Room for the classes of graphs of so many tests. `NoMemory` where memory runs out.
     pub fn new(alloc: Global, tests: usize) -> Result<Classes, NoMemory> {
         let words = words_for(tests);
         let left = filled(alloc, 0u64, words)?;

@@ -62,7 +62,7 @@ fn tail_of(alloc: Global, cycles: u64) -> Result<Vec<u8>, NoMemory>
 }
 
 impl VcdForm {
-    /// The form of a plan of a sound chip. `NoMemory` where there is none.
+    /// The form of a plan of a sound chip. `NoMemory` where memory runs out.
     pub fn new(alloc: Global, soc: &Soc, plan: &Plan) -> Result<VcdForm, NoMemory>
         requires sound { IsSoundChip (soc_value soc.now) }
         requires narrow { sum (widths (plan_value plan.now)) ≤ 256 }

@@ -75,7 +75,7 @@ pub struct VerilogForm {
 impl VerilogForm {
     ghost use Rattle.verilog_text.specs.VerilogForms.{IsVerilogForm};
 
-    /// The Verilog form of the run of a plan of a sound chip. `NoMemory` where there is none.
+    /// The Verilog form of the run of a plan of a sound chip. `NoMemory` where memory runs out.
     pub fn new(alloc: Global, soc: &Soc, plan: &Plan) -> Result<VerilogForm, NoMemory>
         requires sound { IsSoundChip (soc_value soc.now) }
         requires narrow { sum (widths (plan_value plan.now)) ≤ 256 }

@@ -92,7 +92,7 @@ one_test m scan t si so h a b =
     let product : (1 + max si so + min si so) * t.patterns ≤ (1 + (m.inputs + m.bidirs) + (m.outputs + m.bidirs) + 2 * sum m.chains) * t.patterns = mul-le-mul_right t.patterns few in
     let split : (1 + max si so + min si so) * t.patterns ≡ (1 + max si so) * t.patterns + min si so * t.patterns = omega arith in
     let once : min si so * 1 ≤ min si so * t.patterns = mul-le-mul_left (min si so) live in
-    let turn : (1 + (m.inputs + m.bidirs) + (m.outputs + m.bidirs) + 2 * sum m.chains) * t.patterns ≡ t.patterns * (1 + (m.inputs + m.bidirs) + (m.outputs + m.bidirs) + 2 * sum m.chains) = omega arith in
+    let swapped : (1 + (m.inputs + m.bidirs) + (m.outputs + m.bidirs) + 2 * sum m.chains) * t.patterns ≡ t.patterns * (1 + (m.inputs + m.bidirs) + (m.outputs + m.bidirs) + 2 * sum m.chains) = omega arith in
     rw tam (omega (arith, ops_length m.setup si so t.patterns live))
 
 pub within_work : (m : ModuleValue) (scan : Bool) (si so : ℕ) (ts : List Test) → si ≤ (m.inputs + m.bidirs) + sum (scan_lengths m scan) → so ≤ (m.outputs + m.bidirs) + sum (scan_lengths m scan) →

@@ -410,7 +410,7 @@ module _ (soc : SocValue) where
               let by_places = sum_by-le_at (tam_time_of soc h) (λ m. lower_tam_time soc (place_or soc m) h) ms (λ i m at. least (module_place soc m)) in
               let mapped = sum_map (λ p. lower_tam_time soc p h) (place_or soc) ms in
               let all = forced_sum soc h (places_of soc ms) distinct in
-              let turns : forced_bound soc h (places_of soc ms) ≤ plan.cycles = apart_bound_at soc limits plan good h some_high (λ l. l.test.tam && list_any (nat_eq l.place) (places_of soc ms)) (λ t. t.tam && list_any (nat_eq t.place) (places_of soc ms))
+              let stack : forced_bound soc h (places_of soc ms) ≤ plan.cycles = apart_bound_at soc limits plan good h some_high (λ l. l.test.tam && list_any (nat_eq l.place) (places_of soc ms)) (λ t. t.tam && list_any (nat_eq t.place) (places_of soc ms))
               (λ k t o. let a = tam_says plan k t o in let b = place_is plan k t o in rw (a, b) refl)
               (λ k t o q.
               let both = and_parts t.tam (list_any (nat_eq t.place) (places_of soc ms)) q in

@@ -1,7 +1,7 @@
 pub mod CaseFacts
 pub mod CaseBounds
 pub mod BusLists
-pub mod Turns
+pub mod OpenSplits
 pub mod ReadTrees
 pub mod Faults
 pub mod WidthFacts

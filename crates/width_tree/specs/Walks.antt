@@ -9,52 +9,52 @@ use Rattle.width_tree.specs.Cases.{Case, interval, NodeCase, cases_of, KeepsNode
 use Rattle.width_tree.specs.Bounds.{IsEnough}
 use Rattle.width_tree.specs.Findings.{area_by, IsInterval}
 
-abbrev pub no_turn : OpenSplit
-no_turn = record { place = 0; at = 0; old = interval 0 0; area = 0; second = false }
+abbrev pub no_split : OpenSplit
+no_split = record { place = 0; at = 0; old = interval 0 0; area = 0; second = false }
 
-abbrev pub turn_at : List OpenSplit → ℕ → OpenSplit
-turn_at turns n = slice_index_or turns n no_turn
+abbrev pub split_at : List OpenSplit → ℕ → OpenSplit
+split_at stack n = slice_index_or stack n no_split
 
 -- the case before a split, from one within either of its branches where all splits below are over
 abbrev pub case_before : Case → OpenSplit → Case
-case_before c turn = slice_set c turn.place turn.old
+case_before c opened = slice_set c opened.place opened.old
 
 -- the case of the second branch, from one within the first
 abbrev pub case_later : Case → OpenSplit → Case
-case_later c turn = slice_set c turn.place (interval (turn.at + 1) turn.old.high)
+case_later c opened = slice_set c opened.place (interval (opened.at + 1) opened.old.high)
 
 -- a split at a width within the interval that its module had
-pub record IsTurn (w : ℕ) (times : List ℕ) (c : Case) (turn : OpenSplit) : Type 0 where
-  pub within : turn.place < length c
-  pub old : IsInterval w turn.old
-  pub some : turn.old.low ≤ turn.at
-  pub below : turn.at < turn.old.high
-  pub area : turn.area ≡ area_by times turn.old turn.place
+pub record IsOpenSplit (w : ℕ) (times : List ℕ) (c : Case) (opened : OpenSplit) : Type 0 where
+  pub within : opened.place < length c
+  pub old : IsInterval w opened.old
+  pub some : opened.old.low ≤ opened.at
+  pub below : opened.at < opened.old.high
+  pub area : opened.area ≡ area_by times opened.old opened.place
 
--- Behind a turn the nodes `left` are to come, where `Rest` says which come behind the split: behind its first branch its second
+-- Behind an open split the nodes `left` are to come, where `Rest` says which come behind the split: behind its first branch its second
 -- one and then those, behind its second branch those alone.
 abbrev pub Behind : SocValue → Case → OpenSplit → (List NodeCase → Type 0) → List NodeCase → Type 0
-Behind soc c turn Rest left = MatchBool turn.second (Rest left)
-    ((tree : WidthTree) × (rest : List NodeCase) × (left ≡ cases_of soc (case_later c turn) tree ++ rest) × Rest rest)
+Behind soc c opened Rest left = MatchBool opened.second (Rest left)
+    ((tree : WidthTree) × (rest : List NodeCase) × (left ≡ cases_of soc (case_later c opened) tree ++ rest) × Rest rest)
 
 -- behind a tree in this case, within `depth` splits, the nodes `left` are to come
 unfoldable pub Awaits : SocValue → (w : ℕ) → (times : List ℕ) → List OpenSplit → (depth : ℕ) → Case → List NodeCase → Type 0
-Awaits soc w times turns zero c left = left ≡ []
-Awaits soc w times turns (suc depth) c left =
-    IsTurn w times c (turn_at turns depth) × Behind soc c (turn_at turns depth)
-    (Awaits soc w times turns depth (case_before c (turn_at turns depth))) left
+Awaits soc w times stack zero c left = left ≡ []
+Awaits soc w times stack (suc depth) c left =
+    IsOpenSplit w times c (split_at stack depth) × Behind soc c (split_at stack depth)
+    (Awaits soc w times stack depth (case_before c (split_at stack depth))) left
 
 -- the nodes that are left begin with those of a tree in this case
-pub record Begins (soc : SocValue) (w : ℕ) (times : List ℕ) (turns : List OpenSplit) (depth : ℕ) (c : Case)
+pub record Begins (soc : SocValue) (w : ℕ) (times : List ℕ) (stack : List OpenSplit) (depth : ℕ) (c : Case)
     (left : List NodeCase) : Type 0 where
   pub tree : WidthTree
   pub rest : List NodeCase
   pub left_is : left ≡ cases_of soc c tree ++ rest
-  pub awaits : Awaits soc w times turns depth c rest
+  pub awaits : Awaits soc w times stack depth c rest
 
 -- they do, or none is left
 abbrev pub GoesOn : SocValue → (w : ℕ) → (times : List ℕ) → List OpenSplit → (depth : ℕ) → Case → List NodeCase → Type 0
-GoesOn soc w times turns depth c left = (left ≡ []) ⊎ Begins soc w times turns depth c left
+GoesOn soc w times stack depth c left = (left ≡ []) ⊎ Begins soc w times stack depth c left
 
 -- ---- what is answered of a node
 

@@ -36,7 +36,7 @@ pub struct TreeRoom {
     /// For each module the last list that it stood in.
     marks: Vec<usize>,
     /// The splits that are under way.
-    turns: Vec<OpenSplit>,
+    stack: Vec<OpenSplit>,
 }
 
 impl Model for TreeRoom {
@@ -45,7 +45,7 @@ impl Model for TreeRoom {
 
     ghost Value = { RoomValue };
 
-    ghost view = { λ r. record { modules = length r.own.items; nodes = length r.turns.items } };
+    ghost view = { λ r. record { modules = length r.own.items; nodes = length r.stack.items } };
 
     ghost invariant = { λ r. (length r.times.items ≡ length r.own.items * 256)
         × (length r.widths.intervals.items ≡ length r.own.items)
@@ -55,7 +55,7 @@ impl Model for TreeRoom {
 
 const NO_INTERVAL: Interval = Interval { low: 0, high: 0 };
 
-const NO_TURN: OpenSplit = OpenSplit {
+const NO_SPLIT: OpenSplit = OpenSplit {
     place: 0,
     at: 0,
     old: Interval { low: 0, high: 0 },
@@ -81,7 +81,7 @@ impl TreeRoom {
             own: Vec::from_elem(alloc, 0, modules)?,
             widths,
             marks: Vec::from_elem(alloc, 0, modules)?,
-            turns: Vec::from_elem(alloc, NO_TURN, nodes)?,
+            stack: Vec::from_elem(alloc, NO_SPLIT, nodes)?,
         })
     }
 
@@ -157,7 +157,7 @@ fn check_in(
     own: &mut [u64],
     widths: &mut Widths,
     marks: &mut [usize],
-    turns: &mut [OpenSplit],
+    stack: &mut [OpenSplit],
 ) -> Result<(), TreeFault>
     requires sound { IsSoundChip (soc_value chip.now.soc.now) }
     requires some_wire { 1 ≤ chip.now.wires }
@@ -169,7 +169,7 @@ fn check_in(
         ≡ length (soc_value chip.now.soc.now).modules }
     requires areas { length widths.old.areas.items ≡ length (soc_value chip.now.soc.now).modules }
     requires marks { length marks.old ≡ length (soc_value chip.now.soc.now).modules }
-    requires turns { length tree.now.nodes.items ≤ length turns.old }
+    requires stack { length tree.now.nodes.items ≤ length stack.old }
     ensures checked { (t : WidthTree) → nodes_of t ≡ map node_value tree.now.nodes.items →
         IsChecked (soc_value chip.now.soc.now) chip.now.wires tree.now.claimed
         (cases_of (soc_value chip.now.soc.now)
@@ -187,7 +187,7 @@ fn check_in(
     };
     fill_widths(&table, widths);
     marks.fill(0);
-    check_nodes(&table, tree, widths, marks, turns)
+    check_nodes(&table, tree, widths, marks, stack)
 }
 
 /// Whether a tree is accepted, for a sound chip and sound limits. Ok comes exactly where every node keeps its rule and every
@@ -228,6 +228,6 @@ pub fn check_tree(
         &mut room.own,
         &mut room.widths,
         &mut room.marks,
-        &mut room.turns,
+        &mut room.stack,
     )
 }

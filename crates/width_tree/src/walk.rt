@@ -7,7 +7,7 @@ ghost use Rattle.width_tree.specs.Cases.{Case, interval_at, narrow_at, wide_at, 
 ghost use Rattle.width_tree.specs.Bounds.{IsChecked};
 ghost use Rattle.width_tree.specs.Tables.{chip_of, IsTable};
 ghost use Rattle.width_tree.specs.Findings.{AreWidths, AreOlder, IsFinding};
-ghost use Rattle.width_tree.specs.Walks.{turn_at, case_later, IsTurn, Awaits, Begins, GoesOn, IsJudged};
+ghost use Rattle.width_tree.specs.Walks.{split_at, case_later, IsOpenSplit, Awaits, Begins, GoesOn, IsJudged};
 
 use crate::areas::{Widths, least_area, put_interval};
 use crate::intervals::Interval;
@@ -56,7 +56,7 @@ fn judge_node(claimed: u64, place: usize, finding: Finding) -> Result<(), TreeFa
 fn begin_split(
     table: &ChipTimes<'_>,
     widths: &mut Widths,
-    turns: &mut [OpenSplit],
+    stack: &mut [OpenSplit],
     depth: usize,
     place: usize,
     at: u64,
@@ -67,15 +67,15 @@ fn begin_split(
     requires place { place < length (chip_of table.now).modules }
     requires some { (interval_at widths.old.intervals.items place).low ≤ at }
     requires below { at < (interval_at widths.old.intervals.items place).high }
-    requires room { depth < length turns.old }
+    requires room { depth < length stack.old }
     ensures widths { AreWidths table.now.wires (length (chip_of table.now).modules)
         table.now.times.now widths.new }
     ensures narrow { widths.new.intervals.items ≡ narrow_at widths.old.intervals.items at place }
     ensures depth { result ≡ depth + 1 }
     ensures awaits { (wide : WidthTree) (rest : List NodeCase) →
-        Awaits (chip_of table.now) table.now.wires table.now.times.now turns.old depth
+        Awaits (chip_of table.now) table.now.wires table.now.times.now stack.old depth
         widths.old.intervals.items rest →
-        Awaits (chip_of table.now) table.now.wires table.now.times.now turns.new (depth + 1)
+        Awaits (chip_of table.now) table.now.wires table.now.times.now stack.new (depth + 1)
         widths.new.intervals.items (cases_of (chip_of table.now)
         (wide_at widths.old.intervals.items at place) wide ++ rest) }
 {
@@ -85,7 +85,7 @@ fn begin_split(
         low: old.low,
         high: at,
     };
-    turns[depth] = OpenSplit {
+    stack[depth] = OpenSplit {
         place,
         at,
         old,
@@ -102,31 +102,31 @@ fn begin_split(
 }
 
 /// Begins the second branch of the last split that is under way, with the wide case of its module.
-fn begin_second(table: &ChipTimes<'_>, widths: &mut Widths, turns: &mut [OpenSplit], last: usize)
+fn begin_second(table: &ChipTimes<'_>, widths: &mut Widths, stack: &mut [OpenSplit], last: usize)
     requires table { IsTable table.now }
     requires widths { AreWidths table.now.wires (length (chip_of table.now).modules)
         table.now.times.now widths.old }
-    requires room { last < length turns.old }
-    requires turn { IsTurn table.now.wires table.now.times.now widths.old.intervals.items
-        (turn_at turns.old last) }
+    requires room { last < length stack.old }
+    requires opened { IsOpenSplit table.now.wires table.now.times.now widths.old.intervals.items
+        (split_at stack.old last) }
     ensures widths { AreWidths table.now.wires (length (chip_of table.now).modules)
         table.now.times.now widths.new }
     ensures wide { widths.new.intervals.items
-        ≡ case_later widths.old.intervals.items (turn_at turns.old last) }
-    ensures turns { turns.new
-        ≡ slice_set turns.old last (record (turn_at turns.old last) { second = true }) }
+        ≡ case_later widths.old.intervals.items (split_at stack.old last) }
+    ensures stack { stack.new
+        ≡ slice_set stack.old last (record (split_at stack.old last) { second = true }) }
 {
-    let turn = turns[last];
+    let opened = stack[last];
     let wide = Interval {
-        low: turn.at + 1,
-        high: turn.old.high,
+        low: opened.at + 1,
+        high: opened.old.high,
     };
-    turns[last].second = true;
+    stack[last].second = true;
     put_interval(
         widths,
-        turn.place,
+        opened.place,
         wide,
-        least_area(table.times, turn.place, wide),
+        least_area(table.times, opened.place, wide),
     );
 }
 
@@ -135,33 +135,33 @@ fn begin_second(table: &ChipTimes<'_>, widths: &mut Widths, turns: &mut [OpenSpl
 fn next_branch(
     table: &ChipTimes<'_>,
     widths: &mut Widths,
-    turns: &mut [OpenSplit],
+    stack: &mut [OpenSplit],
     under_way: usize,
 ) -> usize
     requires table { IsTable table.now }
     requires widths { AreWidths table.now.wires (length (chip_of table.now).modules)
         table.now.times.now widths.old }
-    requires room { under_way ≤ length turns.old }
+    requires room { under_way ≤ length stack.old }
     requires awaits { (rest : List NodeCase)
-        × Awaits (chip_of table.now) table.now.wires table.now.times.now turns.old under_way
+        × Awaits (chip_of table.now) table.now.wires table.now.times.now stack.old under_way
         widths.old.intervals.items rest }
     ensures widths { AreWidths table.now.wires (length (chip_of table.now).modules)
         table.now.times.now widths.new }
     ensures few { result ≤ under_way }
     ensures goes_on { (rest : List NodeCase) →
-        Awaits (chip_of table.now) table.now.wires table.now.times.now turns.old under_way
+        Awaits (chip_of table.now) table.now.wires table.now.times.now stack.old under_way
         widths.old.intervals.items rest →
-        GoesOn (chip_of table.now) table.now.wires table.now.times.now turns.new result
+        GoesOn (chip_of table.now) table.now.wires table.now.times.now stack.new result
         widths.new.intervals.items rest }
 {
     let mut depth = under_way;
     while depth > 0 {
-        let turn = turns[depth - 1];
-        if !turn.second {
-            begin_second(table, widths, turns, depth - 1);
+        let opened = stack[depth - 1];
+        if !opened.second {
+            begin_second(table, widths, stack, depth - 1);
             return depth;
         }
-        put_interval(widths, turn.place, turn.old, turn.area);
+        put_interval(widths, opened.place, opened.old, opened.area);
         depth -= 1;
     }
     depth
@@ -172,36 +172,36 @@ fn go_on(
     table: &ChipTimes<'_>,
     node: &Node,
     widths: &mut Widths,
-    turns: &mut [OpenSplit],
+    stack: &mut [OpenSplit],
     depth: usize,
 ) -> usize
     requires table { IsTable table.now }
     requires widths { AreWidths table.now.wires (length (chip_of table.now).modules)
         table.now.times.now widths.old }
-    requires room { depth < length turns.old }
+    requires room { depth < length stack.old }
     requires rule { KeepsNode (chip_of table.now) table.now.wires widths.old.intervals.items
         (node_value node.now) }
     requires begins { (left : List NodeCase)
-        × Begins (chip_of table.now) table.now.wires table.now.times.now turns.old depth
+        × Begins (chip_of table.now) table.now.wires table.now.times.now stack.old depth
         widths.old.intervals.items
         (in_case widths.old.intervals.items (node_value node.now) ∷ left) }
     ensures widths { AreWidths table.now.wires (length (chip_of table.now).modules)
         table.now.times.now widths.new }
     ensures few { result ≤ depth + 1 }
     ensures goes_on { (left : List NodeCase) →
-        Begins (chip_of table.now) table.now.wires table.now.times.now turns.old depth
+        Begins (chip_of table.now) table.now.wires table.now.times.now stack.old depth
         widths.old.intervals.items
         (in_case widths.old.intervals.items (node_value node.now) ∷ left) →
-        GoesOn (chip_of table.now) table.now.wires table.now.times.now turns.new result
+        GoesOn (chip_of table.now) table.now.wires table.now.times.now stack.new result
         widths.new.intervals.items left }
 {
     if let Node::Split { module, at } = node {
         return match place_of(table.soc, *module) {
-            Some(place) => begin_split(table, widths, turns, depth, place, *at),
+            Some(place) => begin_split(table, widths, stack, depth, place, *at),
             None => depth,
         };
     }
-    next_branch(table, widths, turns, depth)
+    next_branch(table, widths, stack, depth)
 }
 
 /// What a node is judged by: the claim of its tree, in cycles, and its place in it.
@@ -218,7 +218,7 @@ fn check_node(
     node: &Node,
     widths: &mut Widths,
     marks: &mut [usize],
-    turns: &mut [OpenSplit],
+    stack: &mut [OpenSplit],
     depth: usize,
 ) -> Result<usize, TreeFault>
     requires table { IsTable table.now }
@@ -227,9 +227,9 @@ fn check_node(
         table.now.times.now widths.old }
     requires marks { length marks.old ≡ length (chip_of table.now).modules }
     requires older { AreOlder (by.place + 1) marks.old }
-    requires room { depth < length turns.old }
+    requires room { depth < length stack.old }
     requires begins { (left : List NodeCase)
-        × Begins (chip_of table.now) table.now.wires table.now.times.now turns.old depth
+        × Begins (chip_of table.now) table.now.wires table.now.times.now stack.old depth
         widths.old.intervals.items
         (in_case widths.old.intervals.items (node_value node.now) ∷ left) }
     ensures judged { IsJudged (chip_of table.now) table.now.wires by.claimed by.place
@@ -239,15 +239,15 @@ fn check_node(
         table.now.times.now widths.new }
     ensures few { IfOk result (λ next. next ≤ depth + 1) }
     ensures goes_on { (left : List NodeCase) →
-        Begins (chip_of table.now) table.now.wires table.now.times.now turns.old depth
+        Begins (chip_of table.now) table.now.wires table.now.times.now stack.old depth
         widths.old.intervals.items
         (in_case widths.old.intervals.items (node_value node.now) ∷ left) →
         IfOk result (λ next. GoesOn (chip_of table.now) table.now.wires table.now.times.now
-        turns.new next widths.new.intervals.items left) }
+        stack.new next widths.new.intervals.items left) }
 {
     let finding = find_shown(table, widths, node, by.place + 1, marks);
     match judge_node(by.claimed, by.place, finding) {
-        Ok(()) => Ok(go_on(table, node, widths, turns, depth)),
+        Ok(()) => Ok(go_on(table, node, widths, stack, depth)),
         Err(fault) => Err(fault),
     }
 }
@@ -259,14 +259,14 @@ pub fn check_nodes(
     tree: &Tree,
     widths: &mut Widths,
     marks: &mut [usize],
-    turns: &mut [OpenSplit],
+    stack: &mut [OpenSplit],
 ) -> Result<(), TreeFault>
     requires table { IsTable table.now }
     requires widths { AreWidths table.now.wires (length (chip_of table.now).modules)
         table.now.times.now widths.old }
     requires marks { length marks.old ≡ length (chip_of table.now).modules }
     requires older { AreOlder 1 marks.old }
-    requires room { length tree.now.nodes.items ≤ length turns.old }
+    requires room { length tree.now.nodes.items ≤ length stack.old }
     requires tree { IsOneTree (map node_value tree.now.nodes.items) }
     ensures widths { AreWidths table.now.wires (length (chip_of table.now).modules)
         table.now.times.now widths.new }
@@ -281,7 +281,7 @@ pub fn check_nodes(
             claimed: tree.claimed,
             place,
         };
-        match check_node(table, by, node, widths, marks, turns, depth) {
+        match check_node(table, by, node, widths, marks, stack, depth) {
             Ok(next) => depth = next,
             Err(fault) => return Err(fault),
         }

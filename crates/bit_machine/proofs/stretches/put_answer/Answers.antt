@@ -15,7 +15,7 @@ returns-then-shifts-answers-clause-read g c =
 pub returns-else-shifts-answers-clause-read : goal.returns-else-shifts-answers-clause-read
 returns-else-shifts-answers-clause-read g c =
     answer_put (g.C.Bits.PatternBits.byte_of c.response-bits.result) c.args.at.row c.args.stretch.count c.args.path.now _ c.requires.column (g.C.Contents.mark c.args.contents.now c.args.key)
-    (c.len-answers.result - c.in-Some.turn.shifts) c.in-Some.is (omega (arith, c.if-shifts-answers.false, c.len-answers.ensures))
+    (c.len-answers.result - c.in-Some.near.shifts) c.in-Some.is (omega (arith, c.if-shifts-answers.false, c.len-answers.ensures))
     (omega (arith, c.if-shifts-answers.false, c.len-answers.ensures)) refl c.min-count.ensures c.response-bits.ensures.bits c.put_back.ensures
 
 pub returns-else-shifts-answers-clause-others : goal.returns-else-shifts-answers-clause-others

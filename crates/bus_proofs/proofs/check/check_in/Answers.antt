@@ -29,8 +29,8 @@ returns-clause-fault c =
 
 pub returns-clause-room : goal.returns-clause-room
 returns-clause-room c =
-    room_back c.args.basis.now c.check_nodes-checked.new.leaf c.check_nodes-checked.new.turns c.requires.room
-    (c.undo.ensures c.args.case.now c.mark-root.ensures c.requires.room.room.has c.check_nodes-checked.ensures.further) c.check_nodes-checked.ensures.leaves c.check_nodes-checked.auto.turns
+    room_back c.args.basis.now c.check_nodes-checked.new.leaf c.check_nodes-checked.new.stack c.requires.room
+    (c.undo.ensures c.args.case.now c.mark-root.ensures c.requires.room.room.has c.check_nodes-checked.ensures.further) c.check_nodes-checked.ensures.leaves c.check_nodes-checked.auto.stack
 
 pub check_nodes-checked-requires-clause-leaves : goal.check_nodes-checked-requires-clause-leaves
 check_nodes-checked-requires-clause-leaves c = c.begin_work.ensures.leaves c.args.basis.now c.requires.room.leaves

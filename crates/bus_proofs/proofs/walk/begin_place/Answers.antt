@@ -9,5 +9,5 @@ returns-in-Some-clause-room c = λ t.
 
 pub returns-in-Some-clause-begun : goal.returns-in-Some-clause-begun
 returns-in-Some-clause-begun c = λ t root e from is.
-    place_begun c.args.turns.now c.args.at.depth c.args.at.node
-    from is c.requires.room c.requires.depth c.note_turn.ensures c.mark-mark.ensures (c.in-Some.ensures.some e is) c.requires.node c.place_on.ensures.further c.place_on.ensures.case
+    place_begun c.args.stack.now c.args.at.depth c.args.at.node
+    from is c.requires.room c.requires.depth c.note_split.ensures c.mark-mark.ensures (c.in-Some.ensures.some e is) c.requires.node c.place_on.ensures.further c.place_on.ensures.case

@@ -19,6 +19,6 @@ returns-clause-room c = λ t.
 
 pub returns-clause-begun : goal.returns-clause-begun
 returns-clause-begun c = λ t root e from is.
-    wide_begun c.args.turns.now c.args.at.depth c.args.at.node
-    from is c.requires.room c.requires.depth c.note_turn.ensures c.mark-mark.ensures c.is_wide.ensures.room c.is_wide.ensures.further
+    wide_begun c.args.stack.now c.args.at.depth c.args.at.node
+    from is c.requires.room c.requires.depth c.note_split.ensures c.mark-mark.ensures c.is_wide.ensures.room c.is_wide.ensures.further
     (c.if-not-is_wide.ensures.yes refl e is) c.requires.node c.narrow.ensures.further c.narrow.ensures.case

@@ -15,7 +15,7 @@ loop-node-init c = record {
   leaves = c.requires.leaves;
   few = omega arith;
   further = further_none c.args.case.now;
-  goes = λ t e. starts c.args.basis.now c.args.turns.now t c.requires.root;
+  goes = λ t e. starts c.args.basis.now c.args.stack.now t c.requires.root;
   enough = λ t e q n less. absurd (omega (arith, less));
   work = λ t e. c.requires.work;
 }
@@ -48,7 +48,7 @@ loop-node-preserved c = record {
   goes = λ t e.
       let k = next_is c.args.basis.now c.loop-node.node t e (omega (arith, c.loop-node-test.true, c.len-node-end.ensures, length-map c.args.basis.now.proof.now.nodes.items node_value)) c.loop-node.invariant.further (c.loop-node.invariant.goes t e) in
       let next : suc c.loop-node.node ≡ c.loop-node.node + 1 = omega arith in
-      subst (λ n. GoesOn c.args.basis.now c.args.case.now c.check_node.new.turns c.in-Ok.next c.check_node.new.case (drop n (all_cases (chip_of c.args.basis.now) (limits_of c.args.basis.now) t))) next
+      subst (λ n. GoesOn c.args.basis.now c.args.case.now c.check_node.new.stack c.in-Ok.next c.check_node.new.case (drop n (all_cases (chip_of c.args.basis.now) (limits_of c.args.basis.now) t))) next
       (c.in-Ok.ensures.goes_on c.args.case.now k.x (drop (suc c.loop-node.node) (all_cases (chip_of c.args.basis.now) (limits_of c.args.basis.now) t)) k.here);
   enough = λ t e.
       let k = next_is c.args.basis.now c.loop-node.node t e (omega (arith, c.loop-node-test.true, c.len-node-end.ensures, length-map c.args.basis.now.proof.now.nodes.items node_value)) c.loop-node.invariant.further (c.loop-node.invariant.goes t e) in

@@ -14,7 +14,7 @@ invariant-loop-node l = record {
   few : l.depth ≤ l.node;
   further : IsFurther l.initial.case l.case;
   goes : (t : CaseTree) → nodes_of t ≡ (proof_of l.basis).nodes →
-      GoesOn l.basis l.initial.case l.turns l.depth l.case (drop l.node (all_cases (chip_of l.basis) (limits_of l.basis) t));
+      GoesOn l.basis l.initial.case l.stack l.depth l.case (drop l.node (all_cases (chip_of l.basis) (limits_of l.basis) t));
   enough : (t : CaseTree) → nodes_of t ≡ (proof_of l.basis).nodes → AreEnoughBefore l.basis (all_cases (chip_of l.basis) (limits_of l.basis) t) l.node;
   work : (t : CaseTree) → nodes_of t ≡ (proof_of l.basis).nodes → l.leaf.pack.work ≡ work_before l.basis (all_cases (chip_of l.basis) (limits_of l.basis) t) l.node;
 }

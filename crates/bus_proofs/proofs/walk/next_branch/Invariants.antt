@@ -10,8 +10,8 @@ invariant-loop-depth l = record {
   room : IsRoomFor l.basis l.case;
   few : l.depth ≤ l.under_way;
   further : (root : CaseRoom) → IsFurther root l.initial.case → IsFurther root l.case;
-  awaits : (root : CaseRoom) (left : List NodeCase) → IsFurther root l.initial.case → Awaits l.basis root l.initial.turns l.under_way l.initial.case left →
-      Awaits l.basis root l.turns l.depth l.case left;
+  awaits : (root : CaseRoom) (left : List NodeCase) → IsFurther root l.initial.case → Awaits l.basis root l.initial.stack l.under_way l.initial.case left →
+      Awaits l.basis root l.stack l.depth l.case left;
 }
 
 abbrev pub decreases-loop-depth : goal.decreases-loop-depth

@@ -6,7 +6,7 @@ use Rattle.resource_table.proofs.timelines.after_alone.Goals as goal
 pub ended_by-first-requires : goal.ended_by-first-requires
 ended_by-first-requires c =
     let there = slice_at c.args.lines.now c.in-Some.at c.in-Some-get.line.now c.in-Some-get.ensures.lookup.3.0 c.in-Some-get.ensures.lookup.1 in
-    rw c.as_slice-spans.ensures.value (c.requires.turns c.in-Some.at c.in-Some-get.line.now there)
+    rw c.as_slice-spans.ensures.value (c.requires.in_order c.in-Some.at c.in-Some-get.line.now there)
 
 pub after_spans-requires-clause-starts : goal.after_spans-requires-clause-starts
 after_spans-requires-clause-starts c =
@@ -32,7 +32,7 @@ returns-clause-least c other later free =
 pub all_end_by-requires : goal.all_end_by-requires
 all_end_by-requires c =
     let there = slice_at c.args.lines.now c.in-Some.at c.in-Some-get.line.now c.in-Some-get.ensures.lookup.3.0 c.in-Some-get.ensures.lookup.1 in
-    rw c.as_slice-spans.ensures.value (c.requires.turns c.in-Some.at c.in-Some-get.line.now there)
+    rw c.as_slice-spans.ensures.value (c.requires.in_order c.in-Some.at c.in-Some-get.line.now there)
 
 pub returns-then-all_end_by-clause-clear : goal.returns-then-all_end_by-clause-clear
 returns-then-all_end_by-clause-clear c k line place_is line_at =

@@ -4,4 +4,4 @@ use Rattle.schedule_search.specs.declared.tries.TriedTest.{TriedTest}
 use Rattle.schedule_search.proofs.tries.places_of.Goals as goal
 
 pub returns : goal.returns
-returns c = c.loop-turn.invariant ∙ ap (map (λ (t : TriedTest). t.place)) (take_all c.loop-turn.turn-index c.args.turns.now c.loop-turn-test.false)
+returns c = c.loop-tried.invariant ∙ ap (map (λ (t : TriedTest). t.place)) (take_all c.loop-tried.tried-index c.args.by_length.now c.loop-tried-test.false)

@@ -7,7 +7,7 @@ use Rattle.schedule_search.specs.OrderCycles.{HasPlaced, Takes}
 use Rattle.schedule_search.specs.Orders.{IsReady, IsTopological}
 use Rattle.schedule_search.specs.Walks.{may_follow, IsOpen}
 use Rattle.schedule_search.specs.Prefixes.{outside, followers, IsAt, IsOut}
-use Rattle.schedule_search.specs.Taken.{IsTurn}
+use Rattle.schedule_search.specs.Taken.{IsTakenOut}
 use Rattle.schedule_search.specs.Late.{AreInTime, IsSeen}
 use Rattle.schedule_search.specs.Progress.{stand_of, AtMostFirst, NoneBefore}
 use Rattle.resource_table.proofs.Placed.{each_last}
@@ -17,7 +17,7 @@ use Rattle.schedule_search.proofs.Outside.{few_follow, passing_order, unplaced_o
 use Rattle.schedule_search.proofs.Bests.{none_before_more}
 use Rattle.schedule_search.proofs.Stepping.{at_own, out_own}
 use Rattle.schedule_search.proofs.Taking.{some_free}
-use Rattle.schedule_search.proofs.Explorings.{best_refused, best_entered, best_offered, path_topological, explored_refused, explored_whole, explored_left, explored_entered, turn, followed, child_of, walk_stopped, walk_ended, may_place, one_placed, open_below, none_before_rest, taken_back, none_left, some_left}
+use Rattle.schedule_search.proofs.Explorings.{best_refused, best_entered, best_offered, path_topological, explored_refused, explored_whole, explored_left, explored_entered, taken_out, followed, child_of, walk_stopped, walk_ended, may_place, one_placed, open_below, none_before_rest, taken_back, none_left, some_left}
 use Rattle.schedule_search.proofs.Lateness.{seen_more}
 use Rattle.std.proofs.lemmas.Bool.{false≢true}
 use Rattle.schedule_search.proofs.walk.+explore_orders.Goals as goal
@@ -89,7 +89,7 @@ explore_orders-loop-place-init g t c =
       table = c.is_over.ensures.same;
       few = omega arith;
       out = λ _. c.take_out-taken.ensures.out;
-      turn = λ _. c.take_out-taken.ensures.turn;
+      taken_out = λ _. c.take_out-taken.ensures.taken_out;
       back = λ none. absurd (omega (arith, none, free));
       best_room = refl;
       going = ap (λ (x : Progress). x.refused) entered.1 ∙ c.requires.going;
@@ -111,7 +111,7 @@ explore_orders-go_on-requires g t c κs within_measure =
     let within' : place < length (followers job path) = omega (arith, c.loop-place-test.true, c.len-count.ensures, c.args.prefix.now.free.ok.0, ap length c.requires.at.free_are) in
     let has = inv.out within' in
     let now_is : now ≡ path = has.tests_are in
-    let test_is : get_or (followers job path) place 0 ≡ test = get_or_from_slice_get (followers job path) place test 0 (inv.turn within').free_at in
+    let test_is : get_or (followers job path) place 0 ≡ test = get_or_from_slice_get (followers job path) place test 0 (inv.taken_out within').free_at in
     let job_is : c.loop-place.table.job ≡ job = ap (λ (v : TableValue). v.job) inv.table ∙ c.requires.job in
     let sound : IsSoundTable c.loop-place.table = subst IsSoundTable (sym inv.table) c.requires.sound in
     let placed : HasPlaced c.loop-place.table now c.args.from.end = subst (λ (l : List ℕ). HasPlaced c.loop-place.table l c.args.from.end) (sym now_is) (subst (λ (v : TableValue). HasPlaced v path c.args.from.end) (sym inv.table) c.requires.placed) in
@@ -134,9 +134,9 @@ explore_orders-returns-then-progress-clause-explored g t c =
     let test : ℕ = c.loop-place.taken.test in
     let more : ℕ = length job.tests - length path - 1 in
     let within' : place < length (followers job path) = omega (arith, c.loop-place-test.true, c.len-count.ensures, c.args.prefix.now.free.ok.0, ap length c.requires.at.free_are) in
-    let test_is : get_or (followers job path) place 0 ≡ test = get_or_from_slice_get (followers job path) place test 0 (inv.turn within').free_at in
+    let test_is : get_or (followers job path) place 0 ≡ test = get_or_from_slice_get (followers job path) place test 0 (inv.taken_out within').free_at in
     let child = child_of job c.args.tries.now.budget path c.loop-place.prefix.tests.items test (stand_of c.loop-place.progress) (stand_of c.go_on.new.progress) (inv.out within').tests_are c.go_on.ensures.explored in
-    let done = turn job c.args.tries.now.budget more path place test (stand_of c.args.progress.now) (stand_of c.loop-place.progress) (stand_of c.go_on.new.progress) within' (sym test_is) inv.going inv.explored child in
+    let done = taken_out job c.args.tries.now.budget more path place test (stand_of c.args.progress.now) (stand_of c.loop-place.progress) (stand_of c.go_on.new.progress) within' (sym test_is) inv.going inv.explored child in
     let some : 0 < length job.tests - length path = omega (arith, within', few_follow job path, c.requires.at.left) in
     walk_stopped job c.args.tries.now.budget (length job.tests - length path) path (place + 1) (stand_of c.args.progress.now) (stand_of c.go_on.new.progress) some c.if-progress.true done
 
@@ -152,7 +152,7 @@ explore_orders-pass-taken-requires g t c =
     let own : c.go_on.new.prefix.tests.items ≡ path = out.tests_are ∙ (inv.out within').tests_are in
     record {
       out = out_own job c.loop-place.prefix.tests.items test c.go_on.new.prefix out;
-      turn = subst (λ (l : List ℕ). IsTurn job l place c.loop-place.taken) (sym own) (inv.turn within');
+      taken_out = subst (λ (l : List ℕ). IsTakenOut job l place c.loop-place.taken) (sym own) (inv.taken_out within');
     }
 
 pub explore_orders-loop-place-preserved : goal.explore_orders-loop-place-preserved
@@ -164,7 +164,7 @@ explore_orders-loop-place-preserved g t c =
     let test : ℕ = c.loop-place.taken.test in
     let more : ℕ = length job.tests - length path - 1 in
     let within' : place < length (followers job path) = omega (arith, c.loop-place-test.true, c.len-count.ensures, c.args.prefix.now.free.ok.0, ap length c.requires.at.free_are) in
-    let test_is : get_or (followers job path) place 0 ≡ test = get_or_from_slice_get (followers job path) place test 0 (inv.turn within').free_at in
+    let test_is : get_or (followers job path) place 0 ≡ test = get_or_from_slice_get (followers job path) place test 0 (inv.taken_out within').free_at in
     let out = c.go_on.ensures.out c.if-progress.false in
     let own : c.go_on.new.prefix.tests.items ≡ path = out.tests_are ∙ (inv.out within').tests_are in
     let long : length (followers job c.go_on.new.prefix.tests.items) ≡ length (followers job path) = ap (λ (l : List ℕ). length (followers job l)) own in
@@ -174,14 +174,14 @@ explore_orders-loop-place-preserved g t c =
       table = c.go_on.ensures.table ∙ inv.table;
       few = omega (arith, within');
       out = λ less. subst (λ (l : List ℕ). IsOut job l c.pass-taken.result.test c.pass-taken.new.self) own (c.pass-taken.ensures.out (omega (arith, less, long)));
-      turn = λ less. subst (λ (l : List ℕ). IsTurn job l (place + 1) c.pass-taken.result) own (c.pass-taken.ensures.turn (omega (arith, less, long)));
+      taken_out = λ less. subst (λ (l : List ℕ). IsTakenOut job l (place + 1) c.pass-taken.result) own (c.pass-taken.ensures.taken_out (omega (arith, less, long)));
       back = λ all. subst (λ (l : List ℕ). IsAt job l c.pass-taken.new.self) own (c.pass-taken.ensures.back (omega (arith, all, long)));
       best_room = c.go_on.ensures.best_room ∙ inv.best_room;
       going = c.if-progress.false;
       within = c.go_on.ensures.within;
       best = c.go_on.ensures.best;
       none_before = λ later from inside. others later (omega (arith, from)) inside;
-      explored = turn job c.args.tries.now.budget more path place test (stand_of c.args.progress.now) (stand_of c.loop-place.progress) (stand_of c.go_on.new.progress) within' (sym test_is) inv.going inv.explored child;
+      explored = taken_out job c.args.tries.now.budget more path place test (stand_of c.args.progress.now) (stand_of c.loop-place.progress) (stand_of c.go_on.new.progress) within' (sym test_is) inv.going inv.explored child;
     }
 
 pub explore_orders-loop-place-smaller : goal.explore_orders-loop-place-smaller

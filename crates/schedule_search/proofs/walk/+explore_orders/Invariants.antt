@@ -1,7 +1,7 @@
 use Rattle.std.proofs.Common.{◌≡◌, ◌<◌, ◌≤◌, ◌+◌, ◌-◌, ◌*◌, ◌∷◌, ◌++◌, [], ℕ, false, length, get_or, vec_capacity}
 use Rattle.resource_table.specs.Jobs.{job_value}
 use Rattle.schedule_search.specs.Prefixes.{followers, IsAt, IsOut}
-use Rattle.schedule_search.specs.Taken.{IsTurn}
+use Rattle.schedule_search.specs.Taken.{IsTakenOut}
 use Rattle.schedule_search.specs.Progress.{stand_of, IsBest, NoneBefore, Explored}
 use Rattle.schedule_search.proofs.Walking.{tried}
 use Rattle.schedule_search.proofs.walk.+explore_orders.Given as goal
@@ -17,7 +17,7 @@ invariant-explore_orders-loop-place g l = record {
   table : l.table ≡ l.fn.table;
   few : l.place ≤ length (followers (job_value l.job) l.fn.prefix.tests.items);
   out : l.place < length (followers (job_value l.job) l.fn.prefix.tests.items) → IsOut (job_value l.job) l.fn.prefix.tests.items l.taken.test l.prefix;
-  turn : l.place < length (followers (job_value l.job) l.fn.prefix.tests.items) → IsTurn (job_value l.job) l.fn.prefix.tests.items l.place l.taken;
+  taken_out : l.place < length (followers (job_value l.job) l.fn.prefix.tests.items) → IsTakenOut (job_value l.job) l.fn.prefix.tests.items l.place l.taken;
   back : l.place ≡ length (followers (job_value l.job) l.fn.prefix.tests.items) → IsAt (job_value l.job) l.fn.prefix.tests.items l.prefix;
   best_room : vec_capacity l.progress.best ≡ vec_capacity l.initial.progress.best;
   going : l.progress.refused ≡ false;

@@ -26,8 +26,8 @@ same_room : (m n o p : ℕ) → m ≡ n → o ≡ p → (let room : RoomValue = 
 same_room m n o p modules nodes =
     ap (λ (k : ℕ). (let room : RoomValue = record { modules = k; nodes = o } in room)) modules ∙ ap (λ (k : ℕ). (let room : RoomValue = record { modules = n; nodes = k } in room)) nodes
 
-pub check_in-requires-clause-turns : goal.check_in-requires-clause-turns
-check_in-requires-clause-turns c =
+pub check_in-requires-clause-stack : goal.check_in-requires-clause-stack
+check_in-requires-clause-stack c =
     omega (arith, ap length c.deref_mut-4.ensures.value, ap (λ (r : RoomValue). r.nodes) c.room.view_is, length-map c.args.tree.now.nodes.items node_value)
 
 pub invariant_of-room : goal.invariant_of-room
@@ -45,4 +45,4 @@ pub returns-clause-room : goal.returns-clause-room
 returns-clause-room c =
     let room = c.room.inside in
     let new = c.check_in.new in
-    same_room (length (with_items room.own new.own).items) (length room.own.items) (length (with_items room.turns new.turns).items) (length room.turns.items) (as_long room.own new.own) (as_long room.turns new.turns) ∙ c.room.view_is
+    same_room (length (with_items room.own new.own).items) (length room.own.items) (length (with_items room.stack new.stack).items) (length room.stack.items) (as_long room.own new.own) (as_long room.stack new.stack) ∙ c.room.view_is

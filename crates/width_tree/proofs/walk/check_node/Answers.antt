@@ -2,7 +2,7 @@ use Rattle.std.proofs.Common.{ℕ}
 use Rattle.width_tree.specs.Trees.{node_value}
 use Rattle.width_tree.specs.Cases.{in_case}
 use Rattle.width_tree.specs.Tables.{chip_of}
-use Rattle.width_tree.proofs.Turns.{judged_any}
+use Rattle.width_tree.proofs.OpenSplits.{judged_any}
 use Rattle.width_tree.proofs.walk.check_node.Goals as goal
 
 pub returns-in-Err-clause-judged : goal.returns-in-Err-clause-judged

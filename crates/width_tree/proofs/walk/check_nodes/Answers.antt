@@ -4,7 +4,7 @@ use Rattle.width_tree.specs.Trees.{node_value}
 use Rattle.width_tree.specs.Cases.{in_case, cases_of}
 use Rattle.width_tree.specs.Tables.{chip_of}
 use Rattle.width_tree.specs.Walks.{GoesOn}
-use Rattle.width_tree.proofs.Turns.{starts, comes, faulty, enough_more, cases_long}
+use Rattle.width_tree.proofs.OpenSplits.{starts, comes, faulty, enough_more, cases_long}
 use Rattle.width_tree.proofs.walk.check_nodes.Goals as goal
 
 pub loop-place-init : goal.loop-place-init
@@ -12,19 +12,19 @@ loop-place-init c = record {
   widths = c.requires.widths;
   older = c.requires.older;
   few = omega arith;
-  goes = λ t e. starts (chip_of c.args.table.now) c.args.table.now.wires c.args.table.now.times.now c.args.turns.now c.args.widths.now.intervals.items t;
+  goes = λ t e. starts (chip_of c.args.table.now) c.args.table.now.wires c.args.table.now.times.now c.args.stack.now c.args.widths.now.intervals.items t;
   enough = λ t e q n less. absurd (omega arith);
 }
 
 pub check_node-requires-clause-begins : goal.check_node-requires-clause-begins
 check_node-requires-clause-begins c =
-    let k = comes (chip_of c.args.table.now) c.args.table.now.wires c.args.table.now.times.now c.loop-place.turns c.loop-place.depth c.loop-place.widths.intervals.items c.args.widths.now.intervals.items c.requires.tree.0 c.loop-place.place c.index-node.result.now c.args.tree.now.nodes.items c.requires.tree.1
+    let k = comes (chip_of c.args.table.now) c.args.table.now.wires c.args.table.now.times.now c.loop-place.stack c.loop-place.depth c.loop-place.widths.intervals.items c.args.widths.now.intervals.items c.requires.tree.0 c.loop-place.place c.index-node.result.now c.args.tree.now.nodes.items c.requires.tree.1
     (omega (arith, c.loop-place-test.true, c.len-place-end.ensures)) c.index-node.ensures (c.loop-place.invariant.goes c.requires.tree.0 c.requires.tree.1) in
     (drop (suc c.loop-place.place) (cases_of (chip_of c.args.table.now) c.args.widths.now.intervals.items c.requires.tree.0), k.begins)
 
 pub returns-in-Err-clause-checked : goal.returns-in-Err-clause-checked
 returns-in-Err-clause-checked c = λ t e.
-    let k = comes (chip_of c.args.table.now) c.args.table.now.wires c.args.table.now.times.now c.loop-place.turns c.loop-place.depth c.loop-place.widths.intervals.items c.args.widths.now.intervals.items t c.loop-place.place c.index-node.result.now c.args.tree.now.nodes.items e
+    let k = comes (chip_of c.args.table.now) c.args.table.now.wires c.args.table.now.times.now c.loop-place.stack c.loop-place.depth c.loop-place.widths.intervals.items c.args.widths.now.intervals.items t c.loop-place.place c.index-node.result.now c.args.tree.now.nodes.items e
     (omega (arith, c.loop-place-test.true, c.len-place-end.ensures)) c.index-node.ensures (c.loop-place.invariant.goes t e) in
     faulty ℕ (chip_of c.args.table.now) c.args.table.now.wires c.args.tree.now.claimed (cases_of (chip_of c.args.table.now) c.args.widths.now.intervals.items t) c.loop-place.place (in_case c.loop-place.widths.intervals.items (node_value c.index-node.result.now)) c.in-Err.fault k.there (c.loop-place.invariant.enough t e) c.in-Err.ensures.judged
 
@@ -34,13 +34,13 @@ loop-place-preserved c = record {
   older = λ p. omega (arith, c.check_node.ensures.older p);
   few = omega (arith, c.in-Ok.ensures.few, c.loop-place.invariant.few);
   goes = λ t e.
-      let k = comes (chip_of c.args.table.now) c.args.table.now.wires c.args.table.now.times.now c.loop-place.turns c.loop-place.depth c.loop-place.widths.intervals.items c.args.widths.now.intervals.items t c.loop-place.place c.index-node.result.now c.args.tree.now.nodes.items e
+      let k = comes (chip_of c.args.table.now) c.args.table.now.wires c.args.table.now.times.now c.loop-place.stack c.loop-place.depth c.loop-place.widths.intervals.items c.args.widths.now.intervals.items t c.loop-place.place c.index-node.result.now c.args.tree.now.nodes.items e
       (omega (arith, c.loop-place-test.true, c.len-place-end.ensures)) c.index-node.ensures (c.loop-place.invariant.goes t e) in
       let next : suc c.loop-place.place ≡ c.loop-place.place + 1 = omega arith in
-      subst (λ (n : ℕ). GoesOn (chip_of c.args.table.now) c.args.table.now.wires c.args.table.now.times.now c.check_node.new.turns c.in-Ok.next c.check_node.new.widths.intervals.items (drop n (cases_of (chip_of c.args.table.now) c.args.widths.now.intervals.items t))) next
+      subst (λ (n : ℕ). GoesOn (chip_of c.args.table.now) c.args.table.now.wires c.args.table.now.times.now c.check_node.new.stack c.in-Ok.next c.check_node.new.widths.intervals.items (drop n (cases_of (chip_of c.args.table.now) c.args.widths.now.intervals.items t))) next
       (c.in-Ok.ensures.goes_on (drop (suc c.loop-place.place) (cases_of (chip_of c.args.table.now) c.args.widths.now.intervals.items t)) k.begins);
   enough = λ t e.
-      let k = comes (chip_of c.args.table.now) c.args.table.now.wires c.args.table.now.times.now c.loop-place.turns c.loop-place.depth c.loop-place.widths.intervals.items c.args.widths.now.intervals.items t c.loop-place.place c.index-node.result.now c.args.tree.now.nodes.items e
+      let k = comes (chip_of c.args.table.now) c.args.table.now.wires c.args.table.now.times.now c.loop-place.stack c.loop-place.depth c.loop-place.widths.intervals.items c.args.widths.now.intervals.items t c.loop-place.place c.index-node.result.now c.args.tree.now.nodes.items e
       (omega (arith, c.loop-place-test.true, c.len-place-end.ensures)) c.index-node.ensures (c.loop-place.invariant.goes t e) in
       enough_more (chip_of c.args.table.now) c.args.table.now.wires c.args.tree.now.claimed (cases_of (chip_of c.args.table.now) c.args.widths.now.intervals.items t) c.loop-place.place (in_case c.loop-place.widths.intervals.items (node_value c.index-node.result.now)) k.there (c.loop-place.invariant.enough t e) c.in-Ok.ensures.judged;
 }

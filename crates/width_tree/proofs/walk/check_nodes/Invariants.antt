@@ -12,6 +12,6 @@ invariant-loop-place l = record {
   widths : AreWidths l.table.wires (length (chip_of l.table).modules) l.table.times.now l.widths;
   older : AreOlder (l.place + 1) l.marks;
   few : l.depth ≤ l.place;
-  goes : (t : WidthTree) → nodes_of t ≡ map node_value l.tree.nodes.items → GoesOn (chip_of l.table) l.table.wires l.table.times.now l.turns l.depth l.widths.intervals.items (drop l.place (cases_of (chip_of l.table) l.initial.widths.intervals.items t));
+  goes : (t : WidthTree) → nodes_of t ≡ map node_value l.tree.nodes.items → GoesOn (chip_of l.table) l.table.wires l.table.times.now l.stack l.depth l.widths.intervals.items (drop l.place (cases_of (chip_of l.table) l.initial.widths.intervals.items t));
   enough : (t : WidthTree) → nodes_of t ≡ map node_value l.tree.nodes.items → (q : ℕ) (n : NodeCase) → q < l.place → slice_get (cases_of (chip_of l.table) l.initial.widths.intervals.items t) q ≡ Some n → IsEnough (chip_of l.table) l.table.wires l.tree.claimed n;
 }

@@ -9,7 +9,7 @@ abbrev pub invariant-loop-depth : goal.invariant-loop-depth
 invariant-loop-depth l = record {
   widths : AreWidths l.table.wires (length (chip_of l.table).modules) l.table.times.now l.widths;
   few : l.depth ≤ l.under_way;
-  awaits : (rest : List NodeCase) → Awaits (chip_of l.table) l.table.wires l.table.times.now l.initial.turns l.under_way l.initial.widths.intervals.items rest → Awaits (chip_of l.table) l.table.wires l.table.times.now l.turns l.depth l.widths.intervals.items rest;
+  awaits : (rest : List NodeCase) → Awaits (chip_of l.table) l.table.wires l.table.times.now l.initial.stack l.under_way l.initial.widths.intervals.items rest → Awaits (chip_of l.table) l.table.wires l.table.times.now l.stack l.depth l.widths.intervals.items rest;
 }
 
 abbrev pub decreases-loop-depth : goal.decreases-loop-depth

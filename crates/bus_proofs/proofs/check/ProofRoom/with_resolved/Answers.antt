@@ -18,9 +18,9 @@ new-requires-2-clause-modules c =
 pub invariant_of-result : goal.invariant_of-result
 invariant_of-result c =
     let long : c.len.result ≡ length (soc_value c.args.soc.now).modules = c.len.ensures.len ∙ sym (length-map c.args.soc.now.modules.entries (λ (e : ℕ × Module). module_value e.1)) in
-    let turns : length c.in_ok-turns.turns.items ≡ c.len-2.result = sym c.in_ok-turns.turns.ok.0 ∙ c.in_ok-turns.ensures.len in
+    let stack : length c.in_ok-stack.stack.items ≡ c.len-2.result = sym c.in_ok-stack.stack.ok.0 ∙ c.in_ok-stack.ensures.len in
     let uses = subst (λ (ns : List Node). (place : ℕ) (w : LeafValue) → slice_get (map node_value ns) place ≡ Some (OfLeaf w) → named_in w ≤ c.most_uses-uses.result) c.deref.ensures.value c.most_uses-uses.ensures in
-    new_room c.in_ok-basis.basis (soc_value c.args.soc.now) (limits_value c.args.limits.now) (proof_value c.args.proof.now) c.in_ok-case.case c.in_ok-leaf.leaf c.in_ok-turns.turns.items c.most_uses-uses.result
+    new_room c.in_ok-basis.basis (soc_value c.args.soc.now) (limits_value c.args.limits.now) (proof_value c.args.proof.now) c.in_ok-case.case c.in_ok-leaf.leaf c.in_ok-stack.stack.items c.most_uses-uses.result
     c.in_ok-basis.ensures.basis c.in_ok-basis.ensures.chip c.in_ok-basis.ensures.limits c.in_ok-basis.ensures.proof c.requires.proof c.in_ok-case.ensures.room c.in_ok-case.ensures.root
     (c.in_ok-case.ensures.modules ∙ long) c.in_ok-case.ensures.wires c.in_ok-case.ensures.most c.in_ok-leaf.ensures.space c.in_ok-leaf.ensures.places c.if-uses-gt-USES_MOST.false uses
-    (omega (arith, turns, c.len-2.ensures, length-map c.args.proof.now.nodes.items node_value))
+    (omega (arith, stack, c.len-2.ensures, length-map c.args.proof.now.nodes.items node_value))

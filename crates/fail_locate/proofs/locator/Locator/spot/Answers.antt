@@ -45,42 +45,42 @@ returns-in_err-test-clause-value c =
     let none : c.from_residual-in_err-test.result ≡ None = search rules in
     no_value c.from_residual-in_err-test.result _ c.args.self.now c.args.cycle c.args.wire none c.self.view_is (none_begun (soc_value c.self.inside.soc.now) (plan_value c.self.inside.plan.now) c.self.inside.firsts.items c.self.inside.tests.items c.self.invariant c.args.cycle c.args.wire c.in_ok-bus.bus c.in_ok-bus.chain on (subst (λ (ts : List WiredTest). (n : ℕ) (t : WiredTest) → slice_get ts n ≡ Some t → t.bus ≡ c.in_ok-bus.bus → t.start ≤ c.args.cycle → ⊥) c.deref-2.ensures.value c.in_err-test.ensures.none))
 
-pub returns-in_err-turn-clause-none : goal.returns-in_err-turn-clause-none
-returns-in_err-turn-clause-none c =
+pub returns-in_err-near-clause-none : goal.returns-in_err-near-clause-none
+returns-in_err-near-clause-none c =
     let on : IsOnWire c.self.inside.firsts.items c.args.wire c.in_ok-bus.bus c.in_ok-bus.chain = subst (λ (fs : List ℕ). IsOnWire fs c.args.wire c.in_ok-bus.bus c.in_ok-bus.chain) c.deref.ensures.value c.in_ok-bus.ensures.some in
     let last : IsLast c.self.inside.tests.items c.in_ok-bus.bus c.args.cycle c.in_ok-test.test = subst (λ (ts : List WiredTest). IsLast ts c.in_ok-bus.bus c.args.cycle c.in_ok-test.test) c.deref-2.ensures.value c.in_ok-test.ensures.some in
-    let none : c.from_residual-in_err-turn.result ≡ None = search rules in
-    no_answer c.from_residual-in_err-turn.result _ c.args.self.now c.args.cycle c.args.wire none c.self.view_is (none_behind (soc_value c.self.inside.soc.now) (plan_value c.self.inside.plan.now) c.self.inside.firsts.items c.self.inside.tests.items c.self.invariant c.args.cycle c.args.wire c.in_ok-bus.bus c.in_ok-bus.chain on c.in_ok-test.test last c.in_err-turn.ensures)
+    let none : c.from_residual-in_err-near.result ≡ None = search rules in
+    no_answer c.from_residual-in_err-near.result _ c.args.self.now c.args.cycle c.args.wire none c.self.view_is (none_behind (soc_value c.self.inside.soc.now) (plan_value c.self.inside.plan.now) c.self.inside.firsts.items c.self.inside.tests.items c.self.invariant c.args.cycle c.args.wire c.in_ok-bus.bus c.in_ok-bus.chain on c.in_ok-test.test last c.in_err-near.ensures)
 
-pub returns-in_err-turn-clause-value : goal.returns-in_err-turn-clause-value
-returns-in_err-turn-clause-value c =
+pub returns-in_err-near-clause-value : goal.returns-in_err-near-clause-value
+returns-in_err-near-clause-value c =
     let on : IsOnWire c.self.inside.firsts.items c.args.wire c.in_ok-bus.bus c.in_ok-bus.chain = subst (λ (fs : List ℕ). IsOnWire fs c.args.wire c.in_ok-bus.bus c.in_ok-bus.chain) c.deref.ensures.value c.in_ok-bus.ensures.some in
     let last : IsLast c.self.inside.tests.items c.in_ok-bus.bus c.args.cycle c.in_ok-test.test = subst (λ (ts : List WiredTest). IsLast ts c.in_ok-bus.bus c.args.cycle c.in_ok-test.test) c.deref-2.ensures.value c.in_ok-test.ensures.some in
-    let none : c.from_residual-in_err-turn.result ≡ None = search rules in
-    no_value c.from_residual-in_err-turn.result _ c.args.self.now c.args.cycle c.args.wire none c.self.view_is (none_behind (soc_value c.self.inside.soc.now) (plan_value c.self.inside.plan.now) c.self.inside.firsts.items c.self.inside.tests.items c.self.invariant c.args.cycle c.args.wire c.in_ok-bus.bus c.in_ok-bus.chain on c.in_ok-test.test last c.in_err-turn.ensures)
+    let none : c.from_residual-in_err-near.result ≡ None = search rules in
+    no_value c.from_residual-in_err-near.result _ c.args.self.now c.args.cycle c.args.wire none c.self.view_is (none_behind (soc_value c.self.inside.soc.now) (plan_value c.self.inside.plan.now) c.self.inside.firsts.items c.self.inside.tests.items c.self.invariant c.args.cycle c.args.wire c.in_ok-bus.bus c.in_ok-bus.chain on c.in_ok-test.test last c.in_err-near.ensures)
 
 pub returns-in_err-cell-clause-none : goal.returns-in_err-cell-clause-none
 returns-in_err-cell-clause-none c =
     let on : IsOnWire c.self.inside.firsts.items c.args.wire c.in_ok-bus.bus c.in_ok-bus.chain = subst (λ (fs : List ℕ). IsOnWire fs c.args.wire c.in_ok-bus.bus c.in_ok-bus.chain) c.deref.ensures.value c.in_ok-bus.ensures.some in
     let last : IsLast c.self.inside.tests.items c.in_ok-bus.bus c.args.cycle c.in_ok-test.test = subst (λ (ts : List WiredTest). IsLast ts c.in_ok-bus.bus c.args.cycle c.in_ok-test.test) c.deref-2.ensures.value c.in_ok-test.ensures.some in
     let none : c.from_residual-in_err-cell.result ≡ None = search rules in
-    no_answer c.from_residual-in_err-cell.result _ c.args.self.now c.args.cycle c.args.wire none c.self.view_is (none_there (soc_value c.self.inside.soc.now) (plan_value c.self.inside.plan.now) c.self.inside.firsts.items c.self.inside.tests.items c.self.invariant c.args.cycle c.args.wire c.in_ok-bus.bus c.in_ok-bus.chain on c.in_ok-test.test last c.in_ok-turn.turn c.in_ok-turn.ensures c.in_err-cell.ensures)
+    no_answer c.from_residual-in_err-cell.result _ c.args.self.now c.args.cycle c.args.wire none c.self.view_is (none_there (soc_value c.self.inside.soc.now) (plan_value c.self.inside.plan.now) c.self.inside.firsts.items c.self.inside.tests.items c.self.invariant c.args.cycle c.args.wire c.in_ok-bus.bus c.in_ok-bus.chain on c.in_ok-test.test last c.in_ok-near.near c.in_ok-near.ensures c.in_err-cell.ensures)
 
 pub returns-in_err-cell-clause-value : goal.returns-in_err-cell-clause-value
 returns-in_err-cell-clause-value c =
     let on : IsOnWire c.self.inside.firsts.items c.args.wire c.in_ok-bus.bus c.in_ok-bus.chain = subst (λ (fs : List ℕ). IsOnWire fs c.args.wire c.in_ok-bus.bus c.in_ok-bus.chain) c.deref.ensures.value c.in_ok-bus.ensures.some in
     let last : IsLast c.self.inside.tests.items c.in_ok-bus.bus c.args.cycle c.in_ok-test.test = subst (λ (ts : List WiredTest). IsLast ts c.in_ok-bus.bus c.args.cycle c.in_ok-test.test) c.deref-2.ensures.value c.in_ok-test.ensures.some in
     let none : c.from_residual-in_err-cell.result ≡ None = search rules in
-    no_value c.from_residual-in_err-cell.result _ c.args.self.now c.args.cycle c.args.wire none c.self.view_is (none_there (soc_value c.self.inside.soc.now) (plan_value c.self.inside.plan.now) c.self.inside.firsts.items c.self.inside.tests.items c.self.invariant c.args.cycle c.args.wire c.in_ok-bus.bus c.in_ok-bus.chain on c.in_ok-test.test last c.in_ok-turn.turn c.in_ok-turn.ensures c.in_err-cell.ensures)
+    no_value c.from_residual-in_err-cell.result _ c.args.self.now c.args.cycle c.args.wire none c.self.view_is (none_there (soc_value c.self.inside.soc.now) (plan_value c.self.inside.plan.now) c.self.inside.firsts.items c.self.inside.tests.items c.self.invariant c.args.cycle c.args.wire c.in_ok-bus.bus c.in_ok-bus.chain on c.in_ok-test.test last c.in_ok-near.near c.in_ok-near.ensures c.in_err-cell.ensures)
 
-pub turn_behind-requires-clause-phases : goal.turn_behind-requires-clause-phases
-turn_behind-requires-clause-phases c =
+pub capture_behind-requires-clause-phases : goal.capture_behind-requires-clause-phases
+capture_behind-requires-clause-phases c =
     let last : IsLast c.self.inside.tests.items c.in_ok-bus.bus c.args.cycle c.in_ok-test.test = subst (λ (ts : List WiredTest). IsLast ts c.in_ok-bus.bus c.args.cycle c.in_ok-test.test) c.deref-2.ensures.value c.in_ok-test.ensures.some in
     let test : IsPlanned (soc_value c.self.inside.soc.now) (plan_value c.self.inside.plan.now) (planned (soc_value c.self.inside.soc.now) (plan_value c.self.inside.plan.now)) c.in_ok-test.test = last_planned (soc_value c.self.inside.soc.now) (plan_value c.self.inside.plan.now) c.self.inside.firsts.items c.self.inside.tests.items c.self.invariant c.in_ok-bus.bus c.args.cycle c.in_ok-test.test last in
     test.wired.phases
 
-pub turn_behind-requires-clause-ends : goal.turn_behind-requires-clause-ends
-turn_behind-requires-clause-ends c =
+pub capture_behind-requires-clause-ends : goal.capture_behind-requires-clause-ends
+capture_behind-requires-clause-ends c =
     let last : IsLast c.self.inside.tests.items c.in_ok-bus.bus c.args.cycle c.in_ok-test.test = subst (λ (ts : List WiredTest). IsLast ts c.in_ok-bus.bus c.args.cycle c.in_ok-test.test) c.deref-2.ensures.value c.in_ok-test.ensures.some in
     let test : IsPlanned (soc_value c.self.inside.soc.now) (plan_value c.self.inside.plan.now) (planned (soc_value c.self.inside.soc.now) (plan_value c.self.inside.plan.now)) c.in_ok-test.test = last_planned (soc_value c.self.inside.soc.now) (plan_value c.self.inside.plan.now) c.self.inside.firsts.items c.self.inside.tests.items c.self.invariant c.in_ok-bus.bus c.args.cycle c.in_ok-test.test last in
     end_is (soc_value c.self.inside.soc.now) (plan_value c.self.inside.plan.now) test.test c.in_ok-test.test test.wired
@@ -95,13 +95,13 @@ pub returns-clause-spot : goal.returns-clause-spot
 returns-clause-spot c =
     let on : IsOnWire c.self.inside.firsts.items c.args.wire c.in_ok-bus.bus c.in_ok-bus.chain = subst (λ (fs : List ℕ). IsOnWire fs c.args.wire c.in_ok-bus.bus c.in_ok-bus.chain) c.deref.ensures.value c.in_ok-bus.ensures.some in
     let last : IsLast c.self.inside.tests.items c.in_ok-bus.bus c.args.cycle c.in_ok-test.test = subst (λ (ts : List WiredTest). IsLast ts c.in_ok-bus.bus c.args.cycle c.in_ok-test.test) c.deref-2.ensures.value c.in_ok-test.ensures.some in
-    subst (λ (v : LocatorValue). IsSpot v.soc v.plan c.args.cycle c.args.wire (record { test = c.in_ok-test.test.id; pattern = c.in_ok-turn.turn.pattern; cell = c.in_ok-cell.cell })) c.self.view_is
-    (found_spot (soc_value c.self.inside.soc.now) (plan_value c.self.inside.plan.now) c.self.inside.firsts.items c.self.inside.tests.items c.self.invariant c.args.cycle c.args.wire c.in_ok-bus.bus c.in_ok-bus.chain on c.in_ok-test.test last c.in_ok-turn.turn c.in_ok-turn.ensures c.in_ok-cell.cell c.in_ok-cell.ensures)
+    subst (λ (v : LocatorValue). IsSpot v.soc v.plan c.args.cycle c.args.wire (record { test = c.in_ok-test.test.id; pattern = c.in_ok-near.near.pattern; cell = c.in_ok-cell.cell })) c.self.view_is
+    (found_spot (soc_value c.self.inside.soc.now) (plan_value c.self.inside.plan.now) c.self.inside.firsts.items c.self.inside.tests.items c.self.invariant c.args.cycle c.args.wire c.in_ok-bus.bus c.in_ok-bus.chain on c.in_ok-test.test last c.in_ok-near.near c.in_ok-near.ensures c.in_ok-cell.cell c.in_ok-cell.ensures)
 
 pub returns-clause-value : goal.returns-clause-value
 returns-clause-value c =
     let on : IsOnWire c.self.inside.firsts.items c.args.wire c.in_ok-bus.bus c.in_ok-bus.chain = subst (λ (fs : List ℕ). IsOnWire fs c.args.wire c.in_ok-bus.bus c.in_ok-bus.chain) c.deref.ensures.value c.in_ok-bus.ensures.some in
     let last : IsLast c.self.inside.tests.items c.in_ok-bus.bus c.args.cycle c.in_ok-test.test = subst (λ (ts : List WiredTest). IsLast ts c.in_ok-bus.bus c.args.cycle c.in_ok-test.test) c.deref-2.ensures.value c.in_ok-test.ensures.some in
-    spot_is (soc_value c.self.inside.soc.now) (plan_value c.self.inside.plan.now) c.args.cycle c.args.wire (record { test = c.in_ok-test.test.id; pattern = c.in_ok-turn.turn.pattern; cell = c.in_ok-cell.cell }) c.self.invariant.good
-    (found_spot (soc_value c.self.inside.soc.now) (plan_value c.self.inside.plan.now) c.self.inside.firsts.items c.self.inside.tests.items c.self.invariant c.args.cycle c.args.wire c.in_ok-bus.bus c.in_ok-bus.chain on c.in_ok-test.test last c.in_ok-turn.turn c.in_ok-turn.ensures c.in_ok-cell.cell c.in_ok-cell.ensures)
+    spot_is (soc_value c.self.inside.soc.now) (plan_value c.self.inside.plan.now) c.args.cycle c.args.wire (record { test = c.in_ok-test.test.id; pattern = c.in_ok-near.near.pattern; cell = c.in_ok-cell.cell }) c.self.invariant.good
+    (found_spot (soc_value c.self.inside.soc.now) (plan_value c.self.inside.plan.now) c.self.inside.firsts.items c.self.inside.tests.items c.self.invariant c.args.cycle c.args.wire c.in_ok-bus.bus c.in_ok-bus.chain on c.in_ok-test.test last c.in_ok-near.near c.in_ok-near.ensures c.in_ok-cell.cell c.in_ok-cell.ensures)
     ∙ ap (λ (v : LocatorValue). spot_at v.soc v.plan c.args.cycle c.args.wire) c.self.view_is

@@ -10,8 +10,8 @@ pub returns-then-place-len-clause-back : goal.returns-then-place-len-clause-back
 returns-then-place-len-clause-back c = λ last.
     let job = job_value c.args.job.now in
     let path : List ℕ = c.args.self.now.tests.items in
-    let free = back_free job path c.args.self.now c.args.place c.args.taken.test c.requires.out c.requires.turn.free_at in
-    let within : c.args.place < length (followers job path) = slice_get_within (followers job path) c.args.place c.args.taken.test c.requires.turn.free_at in
+    let free = back_free job path c.args.self.now c.args.place c.args.taken.test c.requires.out c.requires.taken_out.free_at in
+    let within : c.args.place < length (followers job path) = slice_get_within (followers job path) c.args.place c.args.taken.test c.requires.taken_out.free_at in
     let long : length c.args.self.now.free.items + 1 ≡ length (followers job path) = omega (arith, ap length free.2, length-remove (followers job path) c.args.place within) in
     absurd (omega (arith, last, long, c.if-place-len.true, c.len.ensures, c.args.self.now.free.ok.0))
 
@@ -19,16 +19,16 @@ pub returns-clause-out : goal.returns-clause-out
 returns-clause-out c = λ more.
     let job = job_value c.args.job.now in
     let path : List ℕ = c.args.self.now.tests.items in
-    let free = back_free job path c.args.self.now c.args.place c.args.taken.test c.requires.out c.requires.turn.free_at in
-    let within : c.args.place < length (followers job path) = slice_get_within (followers job path) c.args.place c.args.taken.test c.requires.turn.free_at in
+    let free = back_free job path c.args.self.now c.args.place c.args.taken.test c.requires.out c.requires.taken_out.free_at in
+    let within : c.args.place < length (followers job path) = slice_get_within (followers job path) c.args.place c.args.taken.test c.requires.taken_out.free_at in
     let long : length c.args.self.now.free.items + 1 ≡ length (followers job path) = omega (arith, ap length free.2, length-remove (followers job path) c.args.place within) in
     absurd (omega (arith, more, long, c.if-place-len.false, c.len.ensures, c.args.self.now.free.ok.0))
 
-pub returns-clause-turn : goal.returns-clause-turn
-returns-clause-turn c = λ more.
+pub returns-clause-taken_out : goal.returns-clause-taken_out
+returns-clause-taken_out c = λ more.
     let job = job_value c.args.job.now in
     let path : List ℕ = c.args.self.now.tests.items in
-    let free = back_free job path c.args.self.now c.args.place c.args.taken.test c.requires.out c.requires.turn.free_at in
-    let within : c.args.place < length (followers job path) = slice_get_within (followers job path) c.args.place c.args.taken.test c.requires.turn.free_at in
+    let free = back_free job path c.args.self.now c.args.place c.args.taken.test c.requires.out c.requires.taken_out.free_at in
+    let within : c.args.place < length (followers job path) = slice_get_within (followers job path) c.args.place c.args.taken.test c.requires.taken_out.free_at in
     let long : length c.args.self.now.free.items + 1 ≡ length (followers job path) = omega (arith, ap length free.2, length-remove (followers job path) c.args.place within) in
     absurd (omega (arith, more, long, c.if-place-len.false, c.len.ensures, c.args.self.now.free.ok.0))

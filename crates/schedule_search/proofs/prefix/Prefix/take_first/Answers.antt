@@ -12,5 +12,5 @@ pub returns : goal.returns
 returns c =
     let job = job_value c.args.job.now in
     let path : List ℕ = c.args.self.now.tests.items in
-    let first : get_or c.args.self.now.free.items 0 0 ≡ c.take_out-taken.result.test = get_or_from_slice_get c.args.self.now.free.items 0 c.take_out-taken.result.test 0 (ap (λ (l : List ℕ). slice_get l 0) c.requires.at.free_are ∙ c.take_out-taken.ensures.turn.free_at) in
+    let first : get_or c.args.self.now.free.items 0 0 ≡ c.take_out-taken.result.test = get_or_from_slice_get c.args.self.now.free.items 0 c.take_out-taken.result.test 0 (ap (λ (l : List ℕ). slice_get l 0) c.requires.at.free_are ∙ c.take_out-taken.ensures.taken_out.free_at) in
     subst (λ (n : ℕ). IsAt job (path ++ n ∷ []) c.append.new.self) (sym first) (subst (λ (l : List ℕ). IsAt job (l ++ c.take_out-taken.result.test ∷ []) c.append.new.self) c.take_out-taken.ensures.out.tests_are c.append.ensures)

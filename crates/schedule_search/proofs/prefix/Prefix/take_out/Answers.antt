@@ -37,8 +37,8 @@ returns-clause-out c =
       missing_room = room.missing_room;
     })
 
-pub returns-clause-turn : goal.returns-clause-turn
-returns-clause-turn c =
+pub returns-clause-taken_out : goal.returns-clause-taken_out
+returns-clause-taken_out c =
     let job = job_value c.args.job.now in
     let path : List ℕ = c.args.self.now.tests.items in
     let x : ℕ = c.take_at-test.result in

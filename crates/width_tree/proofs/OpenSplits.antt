@@ -16,24 +16,24 @@ use Rattle.width_tree.specs.Cases.{Case, interval, interval_at, narrow_at, wide_
 use Rattle.width_tree.specs.Bounds.{IsEnough, HasFault}
 use Rattle.width_tree.specs.Findings.{area_by, IsInterval, AreIntervals}
 use Rattle.width_tree.specs.declared.Node.TheVariants.{Split, Time, Area, Bus, Apart}
-use Rattle.width_tree.specs.Walks.{no_turn, turn_at, case_before, case_later, IsTurn, Behind, Awaits, Begins, GoesOn, IsJudged}
+use Rattle.width_tree.specs.Walks.{no_split, split_at, case_before, case_later, IsOpenSplit, Behind, Awaits, Begins, GoesOn, IsJudged}
 use Rattle.width_tree.proofs.CaseFacts.{cases_leaf}
 
 -- ---- what is known of the last split
 
-module _ (c : Case) (turn : OpenSplit) (x : Interval) where
-  pub later_of_narrow : case_later (slice_set c turn.place x) turn ≡ slice_set c turn.place (interval (turn.at + 1) turn.old.high)
-  later_of_narrow = set-set c turn.place x (interval (turn.at + 1) turn.old.high)
+module _ (c : Case) (opened : OpenSplit) (x : Interval) where
+  pub later_of_narrow : case_later (slice_set c opened.place x) opened ≡ slice_set c opened.place (interval (opened.at + 1) opened.old.high)
+  later_of_narrow = set-set c opened.place x (interval (opened.at + 1) opened.old.high)
 
-  pub before_of_set : case_before (slice_set c turn.place x) turn ≡ case_before c turn
-  before_of_set = set-set c turn.place x turn.old
+  pub before_of_set : case_before (slice_set c opened.place x) opened ≡ case_before c opened
+  before_of_set = set-set c opened.place x opened.old
 
-module _ (turns : List OpenSplit) (n : ℕ) where
-  turn_same : (turn : OpenSplit) → n < length turns → turn_at (slice_set turns n turn) n ≡ turn
-  turn_same turn within = get_or-set_same turns n turn no_turn within
+module _ (stack : List OpenSplit) (n : ℕ) where
+  turn_same : (opened : OpenSplit) → n < length stack → split_at (slice_set stack n opened) n ≡ opened
+  turn_same opened within = get_or-set_same stack n opened no_split within
 
-  turn_other : (k : ℕ) (turn : OpenSplit) → k < n → turn_at (slice_set turns n turn) k ≡ turn_at turns k
-  turn_other k turn less = get_or-set_other turns n k turn no_turn (λ e. omega arith)
+  turn_other : (k : ℕ) (opened : OpenSplit) → k < n → split_at (slice_set stack n opened) k ≡ split_at stack k
+  turn_other k opened less = get_or-set_other stack n k opened no_split (λ e. omega arith)
 
 same_split : (a b x y : ℕ) → OfSplit a b ≡ OfSplit x y → (a ≡ x) × (b ≡ y)
 same_split a b x y e = (cc, cc)
@@ -47,33 +47,33 @@ is_leaf (Bus ms) no' = (OfBus ms.items, refl)
 is_leaf (Apart a b) no' = (OfApart a b, refl)
 
 module _ (soc : SocValue) where
-  behind_same : (c : Case) (turn : OpenSplit) (P Q : List NodeCase → Type 0) → ((l : List NodeCase) → P l → Q l) → (left : List NodeCase) →
-      Behind soc c turn P left → Behind soc c turn Q left
-  behind_same c turn P Q goes left h = go turn.second h
+  behind_same : (c : Case) (opened : OpenSplit) (P Q : List NodeCase → Type 0) → ((l : List NodeCase) → P l → Q l) → (left : List NodeCase) →
+      Behind soc c opened P left → Behind soc c opened Q left
+  behind_same c opened P Q goes left h = go opened.second h
     where
-      go : (second : Bool) → MatchBool second (P left) ((tree : WidthTree) × (rest : List NodeCase) × (left ≡ cases_of soc (case_later c turn) tree ++ rest) × P rest) → MatchBool second (Q left) ((tree : WidthTree) × (rest : List NodeCase) × (left ≡ cases_of soc (case_later c turn) tree ++ rest) × Q rest)
+      go : (second : Bool) → MatchBool second (P left) ((tree : WidthTree) × (rest : List NodeCase) × (left ≡ cases_of soc (case_later c opened) tree ++ rest) × P rest) → MatchBool second (Q left) ((tree : WidthTree) × (rest : List NodeCase) × (left ≡ cases_of soc (case_later c opened) tree ++ rest) × Q rest)
       go true h = goes left h
       go false h = (h.0, h.1, h.2, goes h.1 h.3)
 
-  module _ (c : Case) (turn : OpenSplit) (P : List NodeCase → Type 0) (left : List NodeCase) where
-    behind_second : turn.second ≡ true → Behind soc c turn P left → P left
+  module _ (c : Case) (opened : OpenSplit) (P : List NodeCase → Type 0) (left : List NodeCase) where
+    behind_second : opened.second ≡ true → Behind soc c opened P left → P left
     behind_second second h = (rw second at h)
 
     -- the second branch, and what comes behind it
     record Later : Type 0 where
       tree : WidthTree
       rest : List NodeCase
-      left_is : left ≡ cases_of soc (case_later c turn) tree ++ rest
+      left_is : left ≡ cases_of soc (case_later c opened) tree ++ rest
       then : P rest
 
-    to_second : turn.second ≡ true → P left → Behind soc c turn P left
+    to_second : opened.second ≡ true → P left → Behind soc c opened P left
     to_second second h = rw second h
 
-    module _ (first : turn.second ≡ false) where
-      behind_first : Behind soc c turn P left → Later
+    module _ (first : opened.second ≡ false) where
+      behind_first : Behind soc c opened P left → Later
       behind_first h = let h' = rw first at h in record { tree = h'.0; rest = h'.1; left_is = h'.2; then = h'.3 }
 
-      to_first : Later → Behind soc c turn P left
+      to_first : Later → Behind soc c opened P left
       to_first h = rw first (h.tree, h.rest, h.left_is, h.then)
 
   -- a node begins the nodes of a tree
@@ -83,130 +83,130 @@ module _ (soc : SocValue) where
   head_is c (Branches m width a b) = (OfSplit m width, cases_of soc (narrow_case soc c m width) a ++ cases_of soc (wide_case soc c m width) b, refl)
 
   module _ (w : ℕ) (times : List ℕ) where
-    module _ (turns : List OpenSplit) where
+    module _ (stack : List OpenSplit) where
       -- the splits below the depth alone matter
-      awaits_same : (turns' : List OpenSplit) (depth : ℕ) (c : Case) (left : List NodeCase) →
-          ((k : ℕ) → k < depth → turn_at turns' k ≡ turn_at turns k) → Awaits soc w times turns depth c left → Awaits soc w times turns' depth c left
+      awaits_same : (stack' : List OpenSplit) (depth : ℕ) (c : Case) (left : List NodeCase) →
+          ((k : ℕ) → k < depth → split_at stack' k ≡ split_at stack k) → Awaits soc w times stack depth c left → Awaits soc w times stack' depth c left
       unfolding Awaits
-      awaits_same turns' zero c left same h = h
-      awaits_same turns' (suc d) c left same h =
-          let P : OpenSplit → Type 0 = λ (t : OpenSplit). IsTurn w times c t × Behind soc c t (Awaits soc w times turns' d (case_before c t)) left in
+      awaits_same stack' zero c left same h = h
+      awaits_same stack' (suc d) c left same h =
+          let P : OpenSplit → Type 0 = λ (t : OpenSplit). IsOpenSplit w times c t × Behind soc c t (Awaits soc w times stack' d (case_before c t)) left in
           let here = same d (omega arith) in
-          let inner = behind_same c (turn_at turns d) (Awaits soc w times turns d (case_before c (turn_at turns d))) (Awaits soc w times turns' d (case_before c (turn_at turns d)))
-          (λ l a. awaits_same turns' d (case_before c (turn_at turns d)) l (λ k less. same k (omega arith)) a) left h.1 in
+          let inner = behind_same c (split_at stack d) (Awaits soc w times stack d (case_before c (split_at stack d))) (Awaits soc w times stack' d (case_before c (split_at stack d)))
+          (λ l a. awaits_same stack' d (case_before c (split_at stack d)) l (λ k less. same k (omega arith)) a) left h.1 in
           rw here (h.0, inner)
 
-      pub awaits_none : (depth : ℕ) (c : Case) (left : List NodeCase) → depth ≡ 0 → Awaits soc w times turns depth c left → left ≡ []
+      pub awaits_none : (depth : ℕ) (c : Case) (left : List NodeCase) → depth ≡ 0 → Awaits soc w times stack depth c left → left ≡ []
       unfolding Awaits
       awaits_none depth c left none h = (rw none at h)
 
-      pub awaits_start : (c : Case) → Awaits soc w times turns 0 c []
+      pub awaits_start : (c : Case) → Awaits soc w times stack 0 c []
       unfolding Awaits
       awaits_start c = refl
 
-      -- what comes behind a tree within a split, by its turn
-      record Within (last : ℕ) (c : Case) (turn : OpenSplit) (left : List NodeCase) : Type 0 where
-        turn_is : IsTurn w times c turn
-        behind : Behind soc c turn (Awaits soc w times turns last (case_before c turn)) left
+      -- what comes behind a tree within a split, by whether its second branch is begun
+      record Within (last : ℕ) (c : Case) (opened : OpenSplit) (left : List NodeCase) : Type 0 where
+        opened_is : IsOpenSplit w times c opened
+        behind : Behind soc c opened (Awaits soc w times stack last (case_before c opened)) left
 
-      awaits_open : (depth last : ℕ) (c : Case) (left : List NodeCase) → depth ≡ suc last → Awaits soc w times turns depth c left →
-          Within last c (turn_at turns last) left
+      awaits_open : (depth last : ℕ) (c : Case) (left : List NodeCase) → depth ≡ suc last → Awaits soc w times stack depth c left →
+          Within last c (split_at stack last) left
       unfolding Awaits
       awaits_open depth last c left is h =
           let h' = rw is at h in
-          record { turn_is = h'.0; behind = h'.1 }
+          record { opened_is = h'.0; behind = h'.1 }
 
-      awaits_shut : (last : ℕ) (c : Case) (left : List NodeCase) → Within last c (turn_at turns last) left → Awaits soc w times turns (suc last) c left
+      awaits_shut : (last : ℕ) (c : Case) (left : List NodeCase) → Within last c (split_at stack last) left → Awaits soc w times stack (suc last) c left
       unfolding Awaits
-      awaits_shut last c left h = (h.turn_is, h.behind)
+      awaits_shut last c left h = (h.opened_is, h.behind)
 
-      awaits_close : (depth last : ℕ) (c : Case) (turn : OpenSplit) (left : List NodeCase) → suc last ≡ depth → turn_at turns last ≡ turn →
-          Within last c turn left → Awaits soc w times turns depth c left
-      awaits_close depth last c turn left is same h =
+      awaits_close : (depth last : ℕ) (c : Case) (opened : OpenSplit) (left : List NodeCase) → suc last ≡ depth → split_at stack last ≡ opened →
+          Within last c opened left → Awaits soc w times stack depth c left
+      awaits_close depth last c opened left is same h =
           rw (← is) (awaits_shut last c left (rw same h))
 
-      pub awaits_turn : (depth last : ℕ) (c : Case) (left : List NodeCase) → depth ≡ suc last → Awaits soc w times turns depth c left →
-          IsTurn w times c (turn_at turns last)
-      awaits_turn depth last c left is h = (awaits_open depth last c left is h).turn_is
+      pub awaits_turn : (depth last : ℕ) (c : Case) (left : List NodeCase) → depth ≡ suc last → Awaits soc w times stack depth c left →
+          IsOpenSplit w times c (split_at stack last)
+      awaits_turn depth last c left is h = (awaits_open depth last c left is h).opened_is
 
-      pub awaits_second : (depth last : ℕ) (c : Case) (left : List NodeCase) → depth ≡ suc last → (turn_at turns last).second ≡ true →
-          Awaits soc w times turns depth c left → Awaits soc w times turns last (case_before c (turn_at turns last)) left
+      pub awaits_second : (depth last : ℕ) (c : Case) (left : List NodeCase) → depth ≡ suc last → (split_at stack last).second ≡ true →
+          Awaits soc w times stack depth c left → Awaits soc w times stack last (case_before c (split_at stack last)) left
       awaits_second depth last c left is second h =
-          behind_second c (turn_at turns last) (Awaits soc w times turns last (case_before c (turn_at turns last))) left second (awaits_open depth last c left is h).behind
+          behind_second c (split_at stack last) (Awaits soc w times stack last (case_before c (split_at stack last))) left second (awaits_open depth last c left is h).behind
 
     -- ---- the same case by two ways
 
     -- ---- a split begins
 
-    module _ (turns : List OpenSplit) where
+    module _ (stack : List OpenSplit) where
       -- the first branch of a split that is put behind the others
-      pub first_begins : (turns' : List OpenSplit) (depth : ℕ) (c c' : Case) (turn : OpenSplit) (x : Interval) (wide : WidthTree) (rest : List NodeCase) →
-          turns' ≡ slice_set turns depth turn → depth < length turns → turn.second ≡ false → turn.old ≡ interval_at c turn.place →
-          c' ≡ slice_set c turn.place x → IsTurn w times c' turn →
-          Awaits soc w times turns depth c rest → Awaits soc w times turns' (depth + 1) c' (cases_of soc (wide_at c turn.at turn.place) wide ++ rest)
-      first_begins turns' depth c c' turn x wide rest turns_is room first old case_is is h =
-          awaits_close turns' (depth + 1) depth c' turn (cases_of soc (wide_at c turn.at turn.place) wide ++ rest) (omega arith) here
+      pub first_begins : (stack' : List OpenSplit) (depth : ℕ) (c c' : Case) (opened : OpenSplit) (x : Interval) (wide : WidthTree) (rest : List NodeCase) →
+          stack' ≡ slice_set stack depth opened → depth < length stack → opened.second ≡ false → opened.old ≡ interval_at c opened.place →
+          c' ≡ slice_set c opened.place x → IsOpenSplit w times c' opened →
+          Awaits soc w times stack depth c rest → Awaits soc w times stack' (depth + 1) c' (cases_of soc (wide_at c opened.at opened.place) wide ++ rest)
+      first_begins stack' depth c c' opened x wide rest turns_is room first old case_is is h =
+          awaits_close stack' (depth + 1) depth c' opened (cases_of soc (wide_at c opened.at opened.place) wide ++ rest) (omega arith) here
           (record {
-            turn_is = is;
-            behind = to_first c' turn (Awaits soc w times turns' depth (case_before c' turn)) (cases_of soc (wide_at c turn.at turn.place) wide ++ rest) first
+            opened_is = is;
+            behind = to_first c' opened (Awaits soc w times stack' depth (case_before c' opened)) (cases_of soc (wide_at c opened.at opened.place) wide ++ rest) first
                 (record { tree = wide; rest = rest; left_is = ap (λ d. cases_of soc d wide ++ rest) (sym later); then = inner });
           })
         where
-          here : turn_at turns' depth ≡ turn
-          here = ap (λ l. turn_at l depth) turns_is ∙ turn_same turns depth turn room
+          here : split_at stack' depth ≡ opened
+          here = ap (λ l. split_at l depth) turns_is ∙ turn_same stack depth opened room
 
-          back : case_before c' turn ≡ c
-          back = ap (λ d. case_before d turn) case_is ∙ before_of_set c turn x ∙ ap (slice_set c turn.place) old ∙ set-get_or c turn.place (interval 0 0)
+          back : case_before c' opened ≡ c
+          back = ap (λ d. case_before d opened) case_is ∙ before_of_set c opened x ∙ ap (slice_set c opened.place) old ∙ set-get_or c opened.place (interval 0 0)
 
-          later : case_later c' turn ≡ wide_at c turn.at turn.place
-          later = ap (λ d. case_later d turn) case_is ∙ later_of_narrow c turn x ∙ ap (λ (i : Interval). slice_set c turn.place (interval (turn.at + 1) i.high)) old
+          later : case_later c' opened ≡ wide_at c opened.at opened.place
+          later = ap (λ d. case_later d opened) case_is ∙ later_of_narrow c opened x ∙ ap (λ (i : Interval). slice_set c opened.place (interval (opened.at + 1) i.high)) old
 
-          inner : Awaits soc w times turns' depth (case_before c' turn) rest
-          inner = rw back (awaits_same turns turns' depth c rest (λ k less. ap (λ l. turn_at l k) turns_is ∙ turn_other turns depth k turn less) h)
+          inner : Awaits soc w times stack' depth (case_before c' opened) rest
+          inner = rw back (awaits_same stack stack' depth c rest (λ k less. ap (λ l. split_at l k) turns_is ∙ turn_other stack depth k opened less) h)
 
       -- the second branch of the last split
-      pub second_begins : (turns' : List OpenSplit) (depth last : ℕ) (c c' : Case) (turn now : OpenSplit) (left : List NodeCase) →
-          depth ≡ suc last → last < length turns → turn_at turns last ≡ turn → turn.second ≡ false → now ≡ record turn { second = true } →
-          turns' ≡ slice_set turns last now → c' ≡ case_later c turn →
-          Awaits soc w times turns depth c left → Begins soc w times turns' depth c' left
-      second_begins turns' depth last c c' turn now left is room at first now_is turns_is case_is h =
+      pub second_begins : (stack' : List OpenSplit) (depth last : ℕ) (c c' : Case) (opened now : OpenSplit) (left : List NodeCase) →
+          depth ≡ suc last → last < length stack → split_at stack last ≡ opened → opened.second ≡ false → now ≡ record opened { second = true } →
+          stack' ≡ slice_set stack last now → c' ≡ case_later c opened →
+          Awaits soc w times stack depth c left → Begins soc w times stack' depth c' left
+      second_begins stack' depth last c c' opened now left is room at first now_is turns_is case_is h =
           record {
             tree = later.tree;
             rest = later.rest;
             left_is = later.left_is ∙ ap (λ d. cases_of soc d later.tree ++ later.rest) (sym case_is);
-            awaits = awaits_close turns' depth last c' now later.rest (sym is) here
+            awaits = awaits_close stack' depth last c' now later.rest (sym is) here
                 (record {
-                  turn_is = turn_is;
-                  behind = to_second c' now (Awaits soc w times turns' last (case_before c' now)) later.rest (ap (λ (t : OpenSplit). t.second) now_is) inner;
+                  opened_is = opened_is;
+                  behind = to_second c' now (Awaits soc w times stack' last (case_before c' now)) later.rest (ap (λ (t : OpenSplit). t.second) now_is) inner;
                 });
           }
         where
-          open_at : Within turns last c turn left
-          open_at = rw (← at) (awaits_open turns depth last c left is h)
+          open_at : Within stack last c opened left
+          open_at = rw (← at) (awaits_open stack depth last c left is h)
 
-          later : Later c turn (Awaits soc w times turns last (case_before c turn)) left
-          later = behind_first c turn (Awaits soc w times turns last (case_before c turn)) left first open_at.behind
+          later : Later c opened (Awaits soc w times stack last (case_before c opened)) left
+          later = behind_first c opened (Awaits soc w times stack last (case_before c opened)) left first open_at.behind
 
-          here : turn_at turns' last ≡ now
-          here = ap (λ l. turn_at l last) turns_is ∙ turn_same turns last now room
+          here : split_at stack' last ≡ now
+          here = ap (λ l. split_at l last) turns_is ∙ turn_same stack last now room
 
-          turn_is : IsTurn w times c' now
-          turn_is =
-              let i = open_at.turn_is in
-              let long = ap length case_is ∙ length-set c turn.place (interval (turn.at + 1) turn.old.high) in
+          opened_is : IsOpenSplit w times c' now
+          opened_is =
+              let i = open_at.opened_is in
+              let long = ap length case_is ∙ length-set c opened.place (interval (opened.at + 1) opened.old.high) in
               let within = i.within in
               rw now_is (record { within = omega arith; old = i.old; some = i.some; below = i.below; area = i.area })
 
-          back : case_before c' now ≡ case_before c turn
-          back = ap (λ d. case_before d now) case_is ∙ ap (λ t. case_before (case_later c turn) t) now_is ∙ before_of_set c turn (interval (turn.at + 1) turn.old.high)
+          back : case_before c' now ≡ case_before c opened
+          back = ap (λ d. case_before d now) case_is ∙ ap (λ t. case_before (case_later c opened) t) now_is ∙ before_of_set c opened (interval (opened.at + 1) opened.old.high)
 
-          inner : Awaits soc w times turns' last (case_before c' now) later.rest
-          inner = rw back (awaits_same turns turns' last (case_before c turn) later.rest (λ k less. ap (λ l. turn_at l k) turns_is ∙ turn_other turns last k now less) later.then)
+          inner : Awaits soc w times stack' last (case_before c' now) later.rest
+          inner = rw back (awaits_same stack stack' last (case_before c opened) later.rest (λ k less. ap (λ l. split_at l k) turns_is ∙ turn_other stack last k now less) later.then)
 
       -- ---- the node that comes
 
       -- it stands in the case that the widths are in
-      pub head_case : (depth : ℕ) (c : Case) (x : NodeCase) (left : List NodeCase) → Begins soc w times turns depth c (x ∷ left) → x.widths ≡ c
+      pub head_case : (depth : ℕ) (c : Case) (x : NodeCase) (left : List NodeCase) → Begins soc w times stack depth c (x ∷ left) → x.widths ≡ c
       head_case depth c x left b =
           let h = head_is c b.tree in
           let front = b.left_is ∙ ap (λ l. l ++ b.rest) h.2 in
@@ -219,10 +219,10 @@ module _ (soc : SocValue) where
         pub wide : WidthTree
         pub rest : List NodeCase
         pub left_is : left ≡ cases_of soc (narrow_case soc c m width) narrow ++ (cases_of soc (wide_case soc c m width) wide ++ rest)
-        pub awaits : Awaits soc w times turns depth c rest
+        pub awaits : Awaits soc w times stack depth c rest
 
       split_from : (depth : ℕ) (c : Case) (m width : ℕ) (left rest : List NodeCase) (tree : WidthTree) →
-          in_case c (OfSplit m width) ∷ left ≡ cases_of soc c tree ++ rest → Awaits soc w times turns depth c rest → SplitBegins depth c m width left
+          in_case c (OfSplit m width) ∷ left ≡ cases_of soc c tree ++ rest → Awaits soc w times stack depth c rest → SplitBegins depth c m width left
       unfolding cases_of
       split_from depth c m width left rest (Leaf leaf) e h =
           let same : in_case c (OfSplit m width) ≡ in_case c (OfLeaf leaf) = cc in
@@ -243,12 +243,12 @@ module _ (soc : SocValue) where
           }
 
       pub split_begins : (depth : ℕ) (c : Case) (m width : ℕ) (left : List NodeCase) →
-          Begins soc w times turns depth c (in_case c (OfSplit m width) ∷ left) → SplitBegins depth c m width left
+          Begins soc w times stack depth c (in_case c (OfSplit m width) ∷ left) → SplitBegins depth c m width left
       split_begins depth c m width left b = split_from depth c m width left b.rest b.tree b.left_is b.awaits
 
       -- a leaf with what comes behind it
       leaf_from : (depth : ℕ) (c : Case) (leaf : LeafValue) (left rest : List NodeCase) (tree : WidthTree) →
-          in_case c (OfLeaf leaf) ∷ left ≡ cases_of soc c tree ++ rest → Awaits soc w times turns depth c rest → Awaits soc w times turns depth c left
+          in_case c (OfLeaf leaf) ∷ left ≡ cases_of soc c tree ++ rest → Awaits soc w times stack depth c rest → Awaits soc w times stack depth c left
       unfolding cases_of
       leaf_from depth c leaf left rest (Leaf other) e h =
           let tails : left ≡ rest = cc in
@@ -259,20 +259,20 @@ module _ (soc : SocValue) where
           absurd cc
 
       pub leaf_awaits : (depth : ℕ) (c : Case) (leaf : LeafValue) (left : List NodeCase) →
-          Begins soc w times turns depth c (in_case c (OfLeaf leaf) ∷ left) → Awaits soc w times turns depth c left
+          Begins soc w times stack depth c (in_case c (OfLeaf leaf) ∷ left) → Awaits soc w times stack depth c left
       leaf_awaits depth c leaf left b = leaf_from depth c leaf left b.rest b.tree b.left_is b.awaits
 
   -- ---- what the check's steps make of it
 
   module _ (w : ℕ) where
     -- a split that begins
-    pub split_begun : (n : ℕ) (times : List ℕ) (turns turns' : List OpenSplit) (depth : ℕ) (c c' : Case) (p width : ℕ) (old : Interval) (area : ℕ) (wide : WidthTree) (rest : List NodeCase) →
+    pub split_begun : (n : ℕ) (times : List ℕ) (stack stack' : List OpenSplit) (depth : ℕ) (c c' : Case) (p width : ℕ) (old : Interval) (area : ℕ) (wide : WidthTree) (rest : List NodeCase) →
         AreIntervals w n c → p < n → old ≡ interval_at c p → area ≡ area_by times (interval_at c p) p → (interval_at c p).low ≤ width →
-        width < (interval_at c p).high → depth < length turns →
-        turns' ≡ slice_set turns depth (record { place = p; at = width; old = old; area = area; second = false }) → c' ≡ narrow_at c width p →
-        Awaits soc w times turns depth c rest → Awaits soc w times turns' (depth + 1) c' (cases_of soc (wide_at c width p) wide ++ rest)
-    split_begun n times turns turns' depth c c' p width old area wide rest are within old_is area_is some below room turns_is case_is h =
-        first_begins w times turns turns' depth c c' (record { place = p; at = width; old = old; area = area; second = false }) (interval (interval_at c p).low width) wide rest turns_is room refl old_is case_is
+        width < (interval_at c p).high → depth < length stack →
+        stack' ≡ slice_set stack depth (record { place = p; at = width; old = old; area = area; second = false }) → c' ≡ narrow_at c width p →
+        Awaits soc w times stack depth c rest → Awaits soc w times stack' (depth + 1) c' (cases_of soc (wide_at c width p) wide ++ rest)
+    split_begun n times stack stack' depth c c' p width old area wide rest are within old_is area_is some below room turns_is case_is h =
+        first_begins w times stack stack' depth c c' (record { place = p; at = width; old = old; area = area; second = false }) (interval (interval_at c p).low width) wide rest turns_is room refl old_is case_is
         (record {
           within = omega (arith, ap length case_is, length-set c p (interval (interval_at c p).low width));
           old = rw old_is (are.each p within);
@@ -282,15 +282,15 @@ module _ (soc : SocValue) where
         })
         h
 
-    module _ (times : List ℕ) (turns : List OpenSplit) where
+    module _ (times : List ℕ) (stack : List OpenSplit) where
       -- behind a split that began
-      pub split_goes : (turns' : List OpenSplit) (depth next : ℕ) (c c' : Case) (m width p : ℕ) (n : NodeValue) (left : List NodeCase) →
+      pub split_goes : (stack' : List OpenSplit) (depth next : ℕ) (c c' : Case) (m width p : ℕ) (n : NodeValue) (left : List NodeCase) →
           n ≡ OfSplit m width → module_place soc m ≡ Some p → c' ≡ narrow_at c width p → next ≡ depth + 1 →
-          ((wide : WidthTree) (rest : List NodeCase) → Awaits soc w times turns depth c rest → Awaits soc w times turns' (depth + 1) c' (cases_of soc (wide_at c width p) wide ++ rest)) →
-          Begins soc w times turns depth c (in_case c n ∷ left) → GoesOn soc w times turns' next c' left
-      split_goes turns' depth next c c' m width p n left node here case_is next_is goes b =
-          let b' : Begins soc w times turns depth c (in_case c (OfSplit m width) ∷ left) = rw (← node) b in
-          let s = split_begins w times turns depth c m width left b' in
+          ((wide : WidthTree) (rest : List NodeCase) → Awaits soc w times stack depth c rest → Awaits soc w times stack' (depth + 1) c' (cases_of soc (wide_at c width p) wide ++ rest)) →
+          Begins soc w times stack depth c (in_case c n ∷ left) → GoesOn soc w times stack' next c' left
+      split_goes stack' depth next c c' m width p n left node here case_is next_is goes b =
+          let b' : Begins soc w times stack depth c (in_case c (OfSplit m width) ∷ left) = rw (← node) b in
+          let s = split_begins w times stack depth c m width left b' in
           let one = ap (case_at c (narrow_at c width)) here ∙ sym case_is in
           let two = ap (case_at c (wide_at c width)) here in
           inr (record {
@@ -301,29 +301,29 @@ module _ (soc : SocValue) where
           })
 
       pub awaits_behind : (depth : ℕ) (c : Case) (n : Node) (left : List NodeCase) → ((m width : ℕ) → n ≡ Split m width → ⊥) →
-          Begins soc w times turns depth c (in_case c (node_value n) ∷ left) → Awaits soc w times turns depth c left
+          Begins soc w times stack depth c (in_case c (node_value n) ∷ left) → Awaits soc w times stack depth c left
       awaits_behind depth c n left no' b =
           let l = is_leaf n no' in
-          leaf_awaits w times turns depth c l.0 left (rw (← l.1) b)
+          leaf_awaits w times stack depth c l.0 left (rw (← l.1) b)
 
 -- ---- all nodes
 
-module _ (soc : SocValue) (w : ℕ) (times : List ℕ) (turns : List OpenSplit) where
-  pub starts : (c : Case) (t : WidthTree) → GoesOn soc w times turns 0 c (cases_of soc c t)
-  starts c t = inr (record { tree = t; rest = []; left_is = sym (append-nil (cases_of soc c t)); awaits = awaits_start soc w times turns c })
+module _ (soc : SocValue) (w : ℕ) (times : List ℕ) (stack : List OpenSplit) where
+  pub starts : (c : Case) (t : WidthTree) → GoesOn soc w times stack 0 c (cases_of soc c t)
+  starts c t = inr (record { tree = t; rest = []; left_is = sym (append-nil (cases_of soc c t)); awaits = awaits_start soc w times stack c })
 
   module _ (depth : ℕ) (c : Case) where
     -- the node at a place, where the nodes from it on are left
     pub record Comes (cases : List NodeCase) (place : ℕ) (node : NodeValue) : Type 0 where
       pub there : slice_get cases place ≡ Some (in_case c node)
-      pub begins : Begins soc w times turns depth c (in_case c node ∷ drop (suc place) cases)
+      pub begins : Begins soc w times stack depth c (in_case c node ∷ drop (suc place) cases)
 
     pub comes : (r : Case) (t : WidthTree) (place : ℕ) (node : Node) (items : List Node) → nodes_of t ≡ map node_value items → place < length items →
         node ≡ get_or items place node →
-        GoesOn soc w times turns depth c (drop place (cases_of soc r t)) → Comes (cases_of soc r t) place (node_value node)
+        GoesOn soc w times stack depth c (drop place (cases_of soc r t)) → Comes (cases_of soc r t) place (node_value node)
     comes r t place node items nodes within is goes = go (cases_of soc r t) (cases_leaf soc r t ∙ nodes) goes
       where
-        go : (cases : List NodeCase) → map (λ (n : NodeCase). n.node) cases ≡ map node_value items → GoesOn soc w times turns depth c (drop place cases) → Comes cases place (node_value node)
+        go : (cases : List NodeCase) → map (λ (n : NodeCase). n.node) cases ≡ map node_value items → GoesOn soc w times stack depth c (drop place cases) → Comes cases place (node_value node)
         go cases same at =
             let long = sym (length-map cases (λ (n : NodeCase). n.node)) ∙ ap length same ∙ length-map items node_value in
             let d = in_case c (node_value node) in
@@ -333,10 +333,10 @@ module _ (soc : SocValue) (w : ℕ) (times : List ℕ) (turns : List OpenSplit) 
             sym (get_or-map (λ (n : NodeCase). n.node) cases place (in_case c (node_value node)) (node_value node) (omega arith)) ∙ ap (λ l. get_or l place (node_value node)) same ∙ get_or-map node_value items place node (node_value node) within ∙ ap node_value (sym is) in
             by (get_or cases place (in_case c (node_value node))) there node_is (rw (← split) at)
           where
-            by : (x : NodeCase) → slice_get cases place ≡ Some x → x.node ≡ node_value node → GoesOn soc w times turns depth c (x ∷ drop (suc place) cases) → Comes cases place (node_value node)
+            by : (x : NodeCase) → slice_get cases place ≡ Some x → x.node ≡ node_value node → GoesOn soc w times stack depth c (x ∷ drop (suc place) cases) → Comes cases place (node_value node)
             by x there node_is (inl none) = absurd cc
             by x there node_is (inr b) =
-                let same = both x node_is (head_case soc w times turns depth c x (drop (suc place) cases) b) in
+                let same = both x node_is (head_case soc w times stack depth c x (drop (suc place) cases) b) in
                 record { there = there ∙ ap Some same; begins = rw (← same) b }
               where
                 both : (x : NodeCase) → x.node ≡ node_value node → x.widths ≡ c → x ≡ in_case c (node_value node)

@@ -6,7 +6,7 @@ use Rattle.bit_machine.specs.Lanes.{IsPageWord}
 use Rattle.bit_machine.specs.declared.stepped.Page.{Page}
 use Rattle.bit_machine.specs.declared.path.Path.{Path}
 use Rattle.bit_machine.proofs.LaneSteps.{page_word}
-use Rattle.bit_machine.proofs.stepped.SteppedLane.turn_to.Goals as goal
+use Rattle.bit_machine.proofs.stepped.SteppedLane.show_page.Goals as goal
 
 pub returns-clause-pages : goal.returns-clause-pages
 returns-clause-pages c =
