@@ -7,9 +7,9 @@ ghost use Rattle.std.specs.Prelude.{◌≡◌, ◌++◌, ◌∷◌, [], ◌<◌,
 ghost use Rattle.std.specs.List.{flat_map};
 ghost use Rattle.soc_model.specs.Chips.{soc_value};
 ghost use Rattle.soc_model.specs.SoundChips.{IsSoundChip};
-ghost use Rattle.plan_model.specs.Rules.{IsGoodAlone, live_ids};
+ghost use Rattle.plan_model.specs.Rules.{IsGoodAlone};
 ghost use Rattle.plan_model.specs.Views.{plan_value};
-ghost use Rattle.live_tests.specs.Placed.{IsPlaced, placed_tests};
+ghost use Rattle.live_tests.specs.Placed.{placed_tests};
 ghost use Rattle.chart.specs.ChartText.{is_marked, mark, bar, bus_text, times_text, bar_text, row_text, row_if, start_row, chart_text};
 
 use live_tests::{LiveTests, Placed, PlacedPlan, PlacedTest};
@@ -134,27 +134,10 @@ pub fn print_chart(alloc: Global, soc: &Soc, plan: &Plan) -> Result<Vec<u8>, NoM
         (λ text. text.items ≡ chart_text (soc_value soc.now) (plan_value plan.now)) }
 {
     let names = LiveTests::new(alloc, soc)?;
-    let placed = Placed::new(alloc, soc, plan)?;
-    print_of(alloc, soc, plan, &names, &placed)
-}
-
-/// The chart of a good plan, where its live tests by name and by place are at hand.
-fn print_of(
-    alloc: Global,
-    soc: &Soc,
-    plan: &Plan,
-    names: &LiveTests,
-    placed: &Placed,
-) -> Result<Vec<u8>, NoMemory>
-    requires sound { IsSoundChip (soc_value soc.now) }
-    requires good { IsGoodAlone (soc_value soc.now) (plan_value plan.now) }
-    requires names { names.now ≡ live_ids (soc_value soc.now) }
-    requires placed { IsPlaced (soc_value soc.now) (plan_value plan.now) placed.now }
-    ensures { IfOk result
-        (λ text. text.items ≡ chart_text (soc_value soc.now) (plan_value plan.now)) }
-{
-    let placed = PlacedPlan::new(soc, plan, names, placed);
-    print_placed(alloc, &placed)
+    let places = Placed::new(alloc, soc, plan)?;
+    let placed = PlacedPlan::new(soc, plan, &names, &places);
+    let text = print_placed(alloc, &placed)?;
+    Ok(text)
 }
 
 /// The chart of a good plan that is placed.

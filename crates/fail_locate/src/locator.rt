@@ -15,7 +15,7 @@ ghost use Rattle.fail_locate.specs.Spots.{IsNoSpot, IsSpot};
 ghost use Rattle.fail_locate.specs.Wired.{AreInOrder, AreWired, IsWired};
 
 use crate::cells::cell_shown;
-use crate::wired::{WiredTest, wired_tests, wired_tests_of};
+use crate::wired::{WiredTest, wired_tests};
 use crate::{Cell, Spot};
 use live_tests::{LiveTests, Placed, PlacedPlan, first_wires};
 use outside::NoMemory;
@@ -162,12 +162,10 @@ impl<'a> Locator<'a> {
             (λ locator. locator ≡ record { soc = soc_value soc.now; plan = plan_value plan.now }) }
     {
         let names = LiveTests::new(alloc, soc)?;
-        let placed = Placed::new(alloc, soc, plan)?;
-        let tests = wired_tests_of(alloc, soc, plan, &names, &placed);
-        // dropped by calls: the end of the scope would drop each of their parts, and be proved for each
-        drop(placed);
-        drop(names);
-        Locator::with_tests(alloc, soc, plan, tests?)
+        let places = Placed::new(alloc, soc, plan)?;
+        let placed = PlacedPlan::new(soc, plan, &names, &places);
+        let tests = wired_tests(alloc, &placed)?;
+        Locator::with_tests(alloc, soc, plan, tests)
     }
 
     /// A locator for a good plan of a sound chip, where the plan is placed already. `NoMemory` where memory runs out.

@@ -1,18 +1,14 @@
 //! The tests over the wires of a chip as a plan places them.
 ghost use Rattle.std.specs.Prelude.{◌≡◌, ℕ, ◌++◌, ◌∷◌, [], List, Some, slice_get, IfOk, OnOk, IsTrue};
-ghost use Rattle.soc_model.specs.Chips.{is_live, module_value, soc_value};
-ghost use Rattle.soc_model.specs.SoundChips.{IsSoundChip};
+ghost use Rattle.soc_model.specs.Chips.{is_live, module_value};
 ghost use Rattle.plan_model.specs.Plans.{PlannedTest, planned, planned_test};
-ghost use Rattle.plan_model.specs.Rules.{IsGoodAlone, live_ids};
-ghost use Rattle.plan_model.specs.Views.{plan_value};
-ghost use Rattle.live_tests.specs.Placed.{IsPlaced};
 ghost use Rattle.live_tests.specs.Wrapped.{IsModeWrapper};
 ghost use Rattle.fail_locate.specs.Wired.{IsWired, AreWired, placed_tests};
 
-use live_tests::{LiveTests, ModeWrapper, Placed, PlacedPlan, PlacedTest};
+use live_tests::{ModeWrapper, PlacedPlan, PlacedTest};
 use outside::{NoMemory, push};
-use plan_model::{Phases, Plan};
-use soc_model::{Module, Soc, Test, TestId, module_at, over_wires};
+use plan_model::Phases;
+use soc_model::{Module, Test, TestId, module_at, over_wires};
 use std::alloc::Global;
 
 /// A test over the wires as a plan places it.
@@ -155,23 +151,4 @@ pub fn wired_tests(alloc: Global, placed: &PlacedPlan<'_>) -> Result<Vec<WiredTe
         push_module(placed, &mut tests, place, module_at(placed.soc, place))?;
     }
     Ok(tests)
-}
-
-/// The tests over the wires of a good plan, where its live tests by name and by place are at hand.
-pub fn wired_tests_of(
-    alloc: Global,
-    soc: &Soc,
-    plan: &Plan,
-    names: &LiveTests,
-    placed: &Placed,
-) -> Result<Vec<WiredTest>, NoMemory>
-    requires sound { IsSoundChip (soc_value soc.now) }
-    requires good { IsGoodAlone (soc_value soc.now) (plan_value plan.now) }
-    requires names { names.now ≡ live_ids (soc_value soc.now) }
-    requires placed { IsPlaced (soc_value soc.now) (plan_value plan.now) placed.now }
-    ensures { IfOk result (λ tests. AreWired (soc_value soc.now) (plan_value plan.now)
-        (planned (soc_value soc.now) (plan_value plan.now)) tests.items) }
-{
-    let placed = PlacedPlan::new(soc, plan, names, placed);
-    wired_tests(alloc, &placed)
 }

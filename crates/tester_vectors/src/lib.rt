@@ -8,9 +8,8 @@
 ghost use Rattle.std.specs.Prelude.{◌≡◌, ℕ, ◌<◌, ◌≤◌, true, false};
 ghost use Rattle.soc_model.specs.Chips.{soc_value};
 ghost use Rattle.soc_model.specs.SoundChips.{IsSoundChip};
-ghost use Rattle.plan_model.specs.Rules.{IsGoodAlone, live_ids};
+ghost use Rattle.plan_model.specs.Rules.{IsGoodAlone};
 ghost use Rattle.plan_model.specs.Views.{plan_value};
-ghost use Rattle.live_tests.specs.Placed.{IsPlaced};
 ghost use Rattle.outside.specs.Held.{Rose, Appended, AppendedFront};
 ghost use Rattle.outside.specs.Puts.{Puts};
 ghost use Rattle.plan_model.specs.Runs.{Content};
@@ -105,79 +104,6 @@ pub fn write_lines<C: Contents, K: Sink>(
     }
 }
 
-/// Writes the vectors of a good plan with the made contents of a seed, where what the plan says by place is at hand.
-fn lines_by<K: Sink>(
-    alloc: Global,
-    soc: &Soc,
-    plan: &Plan,
-    seed: u64,
-    names: &LiveTests,
-    places: &Placed,
-    out: &mut K,
-) -> LinesOutcome
-    requires sound { IsSoundChip (soc_value soc.now) }
-    requires good { IsGoodAlone (soc_value soc.now) (plan_value plan.now) }
-    requires narrow { wires_of (plan_value plan.now) ≤ 256 }
-    requires names { names.now ≡ live_ids (soc_value soc.now) }
-    requires places { IsPlaced (soc_value soc.now) (plan_value plan.now) places.now }
-    ensures faults_never_fall { K.faults out.old ≤ K.faults out.new }
-    ensures written { result ≡ LinesOutcome.Written →
-        Appended (K.written out.old)
-        (whole_text (soc_value soc.now) (plan_value plan.now)
-        (made_content (soc_value soc.now) seed)) (K.written out.new) }
-    ensures no_memory_writes_nothing { result ≡ LinesOutcome.NoMemory → out.new ≡ out.old }
-    ensures none_failed { result ≡ LinesOutcome.Written → Puts K.is_put out.old false out.new }
-    ensures last_failed { result ≡ LinesOutcome.WriteFault → Puts K.is_put out.old true out.new }
-    ensures fault { result ≡ LinesOutcome.WriteFault → Rose (K.faults out.old) (K.faults out.new) }
-    ensures front { result ≡ LinesOutcome.WriteFault →
-        AppendedFront (K.written out.old)
-        (whole_text (soc_value soc.now) (plan_value plan.now)
-        (made_content (soc_value soc.now) seed)) (K.written out.new) }
-{
-    let placed = PlacedPlan::new(soc, plan, names, places);
-    made_contents_stand();
-    write_lines(alloc, &placed, &MadeContents { seed }, out)
-}
-
-/// Places a good plan, and writes its vectors with the made contents of a seed.
-fn lines_of_plan<K: Sink>(
-    alloc: Global,
-    soc: &Soc,
-    plan: &Plan,
-    seed: u64,
-    out: &mut K,
-) -> LinesOutcome
-    requires sound { IsSoundChip (soc_value soc.now) }
-    requires good { IsGoodAlone (soc_value soc.now) (plan_value plan.now) }
-    requires narrow { wires_of (plan_value plan.now) ≤ 256 }
-    ensures faults_never_fall { K.faults out.old ≤ K.faults out.new }
-    ensures written { result ≡ LinesOutcome.Written →
-        Appended (K.written out.old)
-        (whole_text (soc_value soc.now) (plan_value plan.now)
-        (made_content (soc_value soc.now) seed)) (K.written out.new) }
-    ensures no_memory_writes_nothing { result ≡ LinesOutcome.NoMemory → out.new ≡ out.old }
-    ensures none_failed { result ≡ LinesOutcome.Written → Puts K.is_put out.old false out.new }
-    ensures last_failed { result ≡ LinesOutcome.WriteFault → Puts K.is_put out.old true out.new }
-    ensures fault { result ≡ LinesOutcome.WriteFault → Rose (K.faults out.old) (K.faults out.new) }
-    ensures front { result ≡ LinesOutcome.WriteFault →
-        AppendedFront (K.written out.old)
-        (whole_text (soc_value soc.now) (plan_value plan.now)
-        (made_content (soc_value soc.now) seed)) (K.written out.new) }
-{
-    let Ok(names) = LiveTests::new(alloc, soc) else {
-        return LinesOutcome::NoMemory;
-    };
-    let Ok(places) = Placed::new(alloc, soc, plan) else {
-        drop(names);
-        return LinesOutcome::NoMemory;
-    };
-    let outcome = lines_by(alloc, soc, plan, seed, &names, &places, out);
-    // dropped by calls: the end of the scope would drop each of their parts, and be proved for each
-    drop(names);
-    drop(places);
-    outcome
-}
-
 /// Writes the vectors of a good plan of a sound chip, with the made contents of a seed: a line `vectors W C` with the wires
 /// of the plan and its cycles, then a line for each cycle. In it stand the bits that the wires carry, a space, and for each
 /// wire the response bit that is read there, or `-` where none is.
@@ -228,11 +154,19 @@ pub fn write_vectors<K: Sink>(
     if let Some(cells) = too_many_cells(plan) {
         return Outcome::RunTooLong { cells };
     }
-    match lines_of_plan(alloc, soc, plan, seed, out) {
-        LinesOutcome::Written => Outcome::Written,
-        LinesOutcome::WriteFault => Outcome::WriteFault,
-        LinesOutcome::NoMemory => Outcome::NoMemory,
-    }
+    let Ok(names) = LiveTests::new(alloc, soc) else {
+        return Outcome::NoMemory;
+    };
+    let Ok(places) = Placed::new(alloc, soc, plan) else {
+        drop(names);
+        return Outcome::NoMemory;
+    };
+    let placed = PlacedPlan::new(soc, plan, &names, &places);
+    let outcome = write_made(alloc, &placed, seed, out);
+    // dropped by calls: the end of the scope would drop each of their parts, and be proved for each
+    drop(names);
+    drop(places);
+    outcome
 }
 
 /// Writes the vectors of a placed plan, as [`write_vectors`] does those of a plan.
