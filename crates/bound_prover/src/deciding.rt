@@ -18,7 +18,7 @@ use outside::{NoMemory, Shelf, Sink};
 use std::alloc::Global;
 
 /// The text of a proof of a bound, which claims at most the cycles of a plan that is accepted.
-fn text_of<T: Sink>(
+fn proof_text_for<T: Sink>(
     alloc: Global,
     all: &Accepted,
     nodes: u64,
@@ -58,7 +58,7 @@ fn decide_prove<H: Shelf, T: Sink>(
 {
     match load_all(alloc, soc, limits, plan, shelf) {
         Ok(all) => {
-            let text = text_of(alloc, &all, nodes, progress);
+            let text = proof_text_for(alloc, &all, nodes, progress);
             all.free();
             answered_with(Status::Done, text)
         }

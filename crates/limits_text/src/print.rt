@@ -105,7 +105,7 @@ fn form_of(profiles: &[Profile]) -> u64
 }
 
 /// The text of limits, one item a line.
-fn text_of(alloc: Global, limits: &Limits) -> Result<Vec<u8>, NoMemory>
+fn lines_of_limits(alloc: Global, limits: &Limits) -> Result<Vec<u8>, NoMemory>
     ensures { IfOk result (λ text. text.items ≡ limits_text (limits_value limits.now)) }
 {
     let mut text = Vec::new(alloc);
@@ -125,6 +125,6 @@ pub fn print_limits(alloc: Global, limits: &Limits) -> Result<Vec<u8>, NoMemory>
         (λ text. (soc : SocValue) → IsSoundChip soc → IsSoundLimits soc (limits_value limits.now) →
         AreReadLimits text.items soc (limits_value limits.now)) }
 {
-    let text = text_of(alloc, limits)?;
+    let text = lines_of_limits(alloc, limits)?;
     Ok(text)
 }
