@@ -1,8 +1,8 @@
 -- What may be answered of a chip, and what is written of made data.
-use Rattle.std.proofs.Common.{◌≡◌, ℕ, ◌<◌, ◌≤◌, inl, inr, List, [], Option, None, Some, IfOk, IfSome, Result, length, refl, sym, subst, ◌∙◌, ap, IsTrue}
+use Rattle.std.proofs.Common.{◌≡◌, ℕ, ◌<◌, inl, inr, List, [], Option, None, Some, IfOk, IfSome, Result, length, refl, sym, subst, ◌∙◌, ap, IsTrue}
 use Rattle.std.specs.Global.{Vec}
 use Rattle.std.specs.FinMap.{get}
-use Rattle.std.proofs.lemmas.Bool.{lt-ltb, le-ltb}
+use Rattle.std.proofs.lemmas.Bool.{lt-ltb}
 use Rattle.outside.specs.declared.NoMemory.{NoMemory as MemoryFault}
 use Rattle.outside.specs.Held.{Files}
 use Rattle.soc_model.specs.Chips.{SocValue}
@@ -21,7 +21,7 @@ use Rattle.commands.specs.Readings.{IsRead, RefusesChip}
 use Rattle.commands.specs.Texts.{is_line}
 use Rattle.commands.proofs.FileStages.{go_on, line_refuses}
 use Rattle.commands.proofs.UnlessRefused.{refusal_written}
-use Rattle.made_data.specs.Made.{made_text, long_line, long_refusal}
+use Rattle.made_data.specs.Made.{long_line, long_refusal}
 
 -- ---- what may be answered of a chip, and loaded
 
@@ -49,9 +49,6 @@ chip_loaded is_load soc next chip first last (Some line) text load is = (
 
 refused_long : (text : List ℕ) → DATA_FILE_MOST < length text → long_refusal text ≡ Some (long_line (length text))
 refused_long text long = rw (lt-ltb DATA_FILE_MOST (length text) long) refl
-
-taken_short : (text : List ℕ) → length text ≤ DATA_FILE_MOST → long_refusal text ≡ None
-taken_short text short = rw (le-ltb DATA_FILE_MOST (length text) short) refl
 
 pub long_written : (text : List ℕ) (size : ℕ) (made : Result (Vec ℕ) MemoryFault) (verdict : Verdict) (kb ka : ℕ) (old new : Option (List ℕ)) (end : Status) → size ≡ length text → DATA_FILE_MOST < size →
     IfOk made (λ line. line.items ≡ long_line size) → IfOk made (λ line. IsTrue (is_line line.items)) → GivesText Refused made verdict → Writes verdict kb ka old end new → WritesUnless (long_refusal text) text kb ka old end new

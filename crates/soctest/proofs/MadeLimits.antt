@@ -1,5 +1,5 @@
 -- The limits of made chips are sound for them.
-use Rattle.std.proofs.Common.{◌≡◌, ℕ, ◌<◌, ◌≤◌, ◌⊎◌, inl, inr, ◌||◌, Bool, true, false, Some, None, [], slice_get, nat_eq, nat_lt, refl, subst, arith, All, Contains}
+use Rattle.std.proofs.Common.{◌≡◌, ℕ, ◌<◌, ◌≤◌, ◌⊎◌, inl, inr, ◌||◌, Bool, true, false, Some, [], slice_get, nat_eq, nat_lt, refl, subst, arith, All, Contains}
 use Rattle.std.proofs.lemmas.Bool.Decides.{nat_tests}
 use Rattle.std.proofs.lemmas.List.Elements.{All-nil}
 use Rattle.std.proofs.lemmas.Option.{slice_get_within, get_or_from_slice_get}
@@ -8,7 +8,6 @@ use Rattle.soc_model.specs.Chips.{SocValue, LiveTest, live_tests}
 use Rattle.plan_model.specs.SoundLimits.{HasTest, IsSoundProfile, IsSoundLimits}
 use Rattle.soctest.specs.Procedures.{sample_refusal}
 use Rattle.soctest.specs.Samples.{sample_limits, sample_line}
-use Rattle.common_lemmas.proofs.Tests.{lt_false}
 use Rattle.common_lemmas.proofs.Lists.{contains_at}
 
 weak : (soc : SocValue) → All (λ (l : LiveTest). l.test.power ≤ 99) (live_tests soc) → (i : ℕ) (l : LiveTest) → slice_get (live_tests soc) i ≡ Some l → l.test.power ≤ 300
@@ -40,9 +39,6 @@ limits_sound soc all = record {
 lt_true : (a b : ℕ) → a < b → nat_lt a b ≡ true
 lt_true a b lt = grind (arith, nat_tests)
 
-not_zero : (n : ℕ) → 1 ≤ n → nat_eq n 0 ≡ false
-not_zero n some = grind (arith, nat_tests)
-
 either : (b : Bool) → (b || true) ≡ true
 either true = refl
 either false = refl
@@ -50,6 +46,3 @@ either false = refl
 pub refused : (n : ℕ) → (n ≡ 0) ⊎ (200 < n) → sample_refusal n ≡ Some (sample_line n)
 refused n (inl is) = rw is refl
 refused n (inr many) = rw (lt_true 200 n many, either (nat_eq n 0)) refl
-
-pub not_refused : (n : ℕ) → 1 ≤ n → n ≤ 200 → sample_refusal n ≡ None
-not_refused n some few = rw (not_zero n some, lt_false 200 n few) refl

@@ -22,8 +22,8 @@ use Rattle.commands.specs.declared.Status.TheVariants.{Done, Refused}
 use Rattle.commands.specs.declared.Verdict.{Verdict}
 use Rattle.commands.specs.declared.Verdict.TheVariants.{Answered, CannotRead, NoMemory as OutOfMemory}
 use Rattle.commands.specs.Texts.{is_line}
-use Rattle.soctest.specs.ShiftPrograms.{named_test, test_cycles, wrapper_for, planned_for, IsRightFor, IsRightProgram, RightIn, SaysRight, RefusedIn, RefusesProgram, program_line, program_fault_line, accepted_with, accepted_program, Judges}
-use Rattle.commands.specs.Decides.{GivesText, AnswersBytes}
+use Rattle.soctest.specs.ShiftPrograms.{named_test, test_cycles, wrapper_for, planned_for, IsRightFor, IsRightProgram, RightIn, SaysRight, RefusedIn, RefusesProgram, program_line, program_fault_line, accepted_with, Judges}
+use Rattle.commands.specs.Decides.{GivesText}
 use Rattle.commands.specs.Settled.{SaysOne, RefusesOne}
 use Rattle.commands.proofs.Judged.{JudgedLaws, judged_one, judged_refused_one}
 
@@ -68,13 +68,6 @@ pub program_refused_one : ProgramLaws → (chip : SocValue) (plan : PlanValue) �
 program_refused_one laws chip plan = judged_refused_one IsReadProgram RefusesText (IsRightProgram chip plan) (RefusedProgram chip plan) program_line (judged_programs laws chip plan)
 
 -- ---- from a program that was read
-
--- a program that is judged for the test that it names
-pub program_judged : (chip : SocValue) (plan : PlanValue) (bytes : List ℕ) (program : ProgramValue) (verdict : Verdict) → IsReadProgram bytes program → Judges plan program (named_test chip program.test) verdict → AnswersBytes (SaysRight chip plan) (RefusesProgram chip plan) (accepted_program chip plan) bytes verdict
-program_judged chip plan bytes program (Answered status text) read (inl a) = inl (a.0, (program, (read, a.1), a.2))
-program_judged chip plan bytes program (Answered status text) read (inr a) = inr (a.0, inr (program, read, a.1), a.2)
-program_judged chip plan bytes program (CannotRead file) read a = a
-program_judged chip plan bytes program OutOfMemory read a = tt
 
 -- a program that is refused in a line
 pub judged_refused : (plan : PlanValue) (program : ProgramValue) (found : Option (ModuleValue × Test)) (line : List ℕ) (made : Result (Vec ℕ) MemoryFault) (verdict : Verdict) → RefusedIn plan program found line → IfOk made (λ text. text.items ≡ line) → IfOk made (λ text. IsTrue (is_line text.items)) → GivesText Refused made verdict → Judges plan program found verdict
