@@ -1,5 +1,5 @@
 -- A file with a proof: the files give one answer of it, and the bound that is printed is one.
-use Rattle.std.proofs.Common.{◌≡◌, ◌∙◌, ℕ, List, Option, Some, true, sym, subst, ap}
+use Rattle.std.proofs.Common.{◌≡◌, ◌∙◌, ℕ, List, Option, true, sym, subst, ap}
 use Rattle.std.specs.FinMap.{get}
 use Rattle.outside.specs.Held.{Files, Appended}
 use Rattle.outside.specs.Words.{words_of}
@@ -65,9 +65,9 @@ bound_settled : ProofLaws → (proof : List ℕ) (chip : SocValue) (bounds : Lim
 bound_settled laws proof chip bounds = (proof_one laws chip bounds, proof_refused_one laws chip bounds, λ value. done_once true (bound_line value))
 
 -- the files fix the line
-pub settled_asked : FilesSayOneThing → ProofLaws → (command : Option CommandValue) → IsSettled true (asked procedure_of command)
-settled_asked files laws (Some (Bound soc limits proof)) = settled_both files true soc limits (with_proof proof) (bound_settled laws proof)
-settled_asked files laws other = tt
+pub settled : FilesSayOneThing → ProofLaws → (command : CommandValue) → IsSettled true (procedure_of command)
+settled files laws (Bound soc limits proof) = settled_both files true soc limits (with_proof proof) (bound_settled laws proof)
+settled files laws other = tt
 
 -- ---- the bound that is printed
 

@@ -1,5 +1,5 @@
 -- How what is asked for is answered: there is one answer to each file, and the proof that is written is what it should be.
-use Rattle.std.proofs.Common.{◌≡◌, ℕ, List, Option, Some, false, subst}
+use Rattle.std.proofs.Common.{◌≡◌, ℕ, List, Option, false, subst}
 use Rattle.std.specs.FinMap.{get}
 use Rattle.outside.specs.Held.{Files, Appended}
 use Rattle.soc_model.specs.Chips.{SocValue}
@@ -30,11 +30,11 @@ abbrev pub Proves : ℕ → SocValue → LimitsValue → PlanValue → List ℕ 
 Proves nodes chip bounds given text = IsProofText chip bounds given.cycles nodes text
 
 -- more than one text may be written
-pub settled_asked : FilesSayOneThing → (command : Option CommandValue) → IsSettled false (asked procedure_of command)
-settled_asked laws (Some (Prove soc limits plan nodes)) =
+pub settled : FilesSayOneThing → (command : CommandValue) → IsSettled false (procedure_of command)
+settled laws (Prove soc limits plan nodes) =
     settled_all laws false soc limits plan (λ chip bounds given. done_with_any (Proves nodes chip bounds given))
     (λ chip bounds given. left_open (Proves nodes chip bounds given))
-settled_asked laws other = tt
+settled laws other = tt
 
 -- what is promised of a text that is written
 proved : AcceptedProofsAreBounds → (files : Files) (soc limits plan : List ℕ) (nodes : ℕ) (text : List ℕ) (old new : Option (List ℕ)) →

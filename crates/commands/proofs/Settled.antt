@@ -8,7 +8,7 @@ use Rattle.commands.specs.declared.Status.{Status}
 use Rattle.commands.specs.declared.Status.TheVariants.{Done, Refused, TooLong}
 use Rattle.commands.specs.Texts.{too_long_line}
 use Rattle.commands.specs.Readings.{most_of, IsRead}
-use Rattle.commands.specs.Procedures.{Procedure, Read, Unless, Answer, NoCommand, done_with, done_with_any}
+use Rattle.commands.specs.Procedures.{Procedure, Read, Unless, Answer, NoCommand, asked, done_with, done_with_any}
 use Rattle.commands.specs.Answers.{Stage, Answers}
 use Rattle.commands.specs.Decides.{IsUnread}
 use Rattle.commands.specs.Ends.{AreTaken}
@@ -99,3 +99,10 @@ done_once fixed text = (λ s t s' t' a b. (a.0 ∙ sym b.0, λ one. a.1 ∙ sym 
 -- where the text isn't fixed
 pub left_open : (MayBe : List ℕ → Type 0) → IsSettled false (done_with_any MayBe)
 left_open MayBe = (λ s t s' t' a b. (a.0 ∙ sym b.0, λ one. let wrong : false ≡ true = one in absurd cc), λ s t a. a.0)
+
+-- ---- what words ask for
+
+-- it is settled where each command is, since words that are no command ask for nothing
+pub settled_asked : {C : Type 0} (fixed : Option C → Bool) (procedure_of : C → Procedure) → ((command : C) → IsSettled (fixed (Some command)) (procedure_of command)) → (command : Option C) → IsSettled (fixed command) (asked procedure_of command)
+settled_asked fixed procedure_of settled None = tt
+settled_asked fixed procedure_of settled (Some command) = settled command

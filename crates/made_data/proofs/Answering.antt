@@ -1,5 +1,5 @@
 -- There is one answer to each file, and what it promises.
-use Rattle.std.proofs.Common.{ℕ, List, Option, Some, true, subst}
+use Rattle.std.proofs.Common.{ℕ, List, Option, true, subst}
 use Rattle.std.specs.FinMap.{get}
 use Rattle.outside.specs.Held.{Files, Appended}
 use Rattle.soc_reader.specs.ChipForm.{SaysChip}
@@ -23,9 +23,9 @@ use Rattle.made_data.specs.Requests.{procedure_of}
 use Rattle.made_data.proofs.DataOfContents.{data_of}
 
 -- the files fix the text
-pub settled_asked : FilesSayOneThing → (command : Option CommandValue) → IsSettled true (asked procedure_of command)
-settled_asked laws (Some (Data soc seed)) = settled_chip laws true (λ chip. Unless (long_refusal (made_text chip seed)) (done_with (made_text chip seed))) (λ chip. done_once true (made_text chip seed)) soc
-settled_asked laws other = tt
+pub settled : FilesSayOneThing → (command : CommandValue) → IsSettled true (procedure_of command)
+settled laws (Data soc seed) = settled_chip laws true (λ chip. Unless (long_refusal (made_text chip seed)) (done_with (made_text chip seed))) (λ chip. done_once true (made_text chip seed)) soc
+settled laws other = tt
 
 made : (files : Files) (soc : List ℕ) (seed : ℕ) (text : List ℕ) (old new : Option (List ℕ)) → Answers (procedure_of (Data soc seed)) files Done text → Appended old text new → IsMade files soc seed old new
 made files soc seed text old new answer put =

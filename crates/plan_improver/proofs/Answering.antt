@@ -1,5 +1,5 @@
 -- How what is asked for is answered: there is one answer to each file, and the plan that is written is what it should be.
-use Rattle.std.proofs.Common.{◌≡◌, ℕ, List, Option, Some, false, subst}
+use Rattle.std.proofs.Common.{◌≡◌, ℕ, List, Option, false, subst}
 use Rattle.std.specs.FinMap.{get}
 use Rattle.outside.specs.Held.{Files, Appended}
 use Rattle.soc_model.specs.Chips.{SocValue}
@@ -27,9 +27,9 @@ use Rattle.plan_improver.specs.Headlines.{Improves, Headline}
 abbrev pub Improved : ℕ → SocValue → LimitsValue → PlanValue → List ℕ → Type 0
 Improved tries chip bounds given text = (value : PlanValue) × IsImproved chip bounds tries given value × (text ≡ plan_text value)
 
-pub settled_asked : FilesSayOneThing → (command : Option CommandValue) → IsSettled false (asked procedure_of command)
-settled_asked laws (Some (Improve soc limits plan tries seed)) = settled_all laws false soc limits plan (λ chip bounds given. done_with_any (Improved tries chip bounds given)) (λ chip bounds given. left_open (Improved tries chip bounds given))
-settled_asked laws other = tt
+pub settled : FilesSayOneThing → (command : CommandValue) → IsSettled false (procedure_of command)
+settled laws (Improve soc limits plan tries seed) = settled_all laws false soc limits plan (λ chip bounds given. done_with_any (Improved tries chip bounds given)) (λ chip bounds given. left_open (Improved tries chip bounds given))
+settled laws other = tt
 
 improves : TrustLaws → PrintedPlansAreRead → (files : Files) (soc limits plan : List ℕ) (tries seed : ℕ) (text : List ℕ) (old new : Option (List ℕ)) → Answers (procedure_of (Improve soc limits plan tries seed)) files Done text → Appended old text new → Improves soc limits plan tries files old new
 improves laws reads files soc limits plan tries seed text old new answer put =

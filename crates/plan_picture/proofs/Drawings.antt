@@ -1,5 +1,5 @@
 -- A plan that is drawn is the one of its files, and runs right.
-use Rattle.std.proofs.Common.{◌≡◌, ℕ, List, [], Option, Some, subst, true}
+use Rattle.std.proofs.Common.{ℕ, List, [], Option, subst, true}
 use Rattle.std.specs.FinMap.{get}
 use Rattle.outside.specs.Held.{Files, Appended}
 use Rattle.soc_model.specs.Chips.{SocValue}
@@ -34,9 +34,9 @@ use Rattle.bound_checker.proofs.ProofFiles.{ProofLaws, proof_one, proof_refused_
 use Rattle.plan_picture.specs.Pictures.{Headline, IsDrawn, IsPictured, ShowsClaim, ShowsPlan, claim_picture, procedure_of, with_claim}
 
 -- the files fix the picture
-pub settled : FilesSayOneThing → ProofLaws → (command : Option CommandValue) → IsSettled true (asked procedure_of command)
-settled laws proofs (Some (Picture soc limits plan)) = settled_all laws true soc limits plan (λ chip bounds value. done_with (picture_text chip bounds value)) (λ chip bounds value. done_once true (picture_text chip bounds value))
-settled laws proofs (Some (PictureWithProof soc limits plan proof)) =
+pub settled : FilesSayOneThing → ProofLaws → (command : CommandValue) → IsSettled true (procedure_of command)
+settled laws proofs (Picture soc limits plan) = settled_all laws true soc limits plan (λ chip bounds value. done_with (picture_text chip bounds value)) (λ chip bounds value. done_once true (picture_text chip bounds value))
+settled laws proofs (PictureWithProof soc limits plan proof) =
     settled_all laws true soc limits plan (with_claim proof) (λ chip bounds value. (proof_one proofs chip bounds, proof_refused_one proofs chip bounds, λ claimed. done_once true (claim_picture chip bounds value claimed)))
 settled laws proofs other = tt
 

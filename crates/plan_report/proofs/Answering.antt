@@ -31,9 +31,9 @@ use Rattle.plan_report.specs.Headlines.{AreLinesRight, Headline, IsReported}
 use Rattle.plan_report.specs.Requests.{procedure_of}
 
 -- the files fix the report
-pub settled_asked : FilesSayOneThing → (command : Option CommandValue) → IsSettled true (asked procedure_of command)
-settled_asked laws (Some (Report soc limits plan)) = settled_all laws true soc limits plan (λ chip bounds value. done_with (report_text chip bounds value)) (λ chip bounds value. done_once true (report_text chip bounds value))
-settled_asked laws other = tt
+pub settled : FilesSayOneThing → (command : CommandValue) → IsSettled true (procedure_of command)
+settled laws (Report soc limits plan) = settled_all laws true soc limits plan (λ chip bounds value. done_with (report_text chip bounds value)) (λ chip bounds value. done_once true (report_text chip bounds value))
+settled laws other = tt
 
 -- the laws of reports
 pub record ReportLaws : Type 0 where

@@ -1,5 +1,5 @@
 -- How what is asked for is answered: there is one answer to each file, and the numbers that are written are those of the patterns.
-use Rattle.std.proofs.Common.{◌≡◌, ℕ, List, Option, Some, true, subst, ap, ◌∙◌}
+use Rattle.std.proofs.Common.{◌≡◌, ℕ, List, Option, true, subst, ap, ◌∙◌}
 use Rattle.std.specs.FinMap.{get}
 use Rattle.outside.specs.Held.{Files, Appended}
 use Rattle.plan_model.specs.Plans.{planned}
@@ -26,9 +26,9 @@ use Rattle.plan_simulator.proofs.RightLoads.{right_loads_are_patterns}
 use Rattle.tester_vectors.specs.VectorText.{too_many}
 
 -- the files fix the line
-pub settled_asked : FilesSayOneThing → (command : Option CommandValue) → IsSettled true (asked procedure_of command)
-settled_asked laws (Some (Simulate soc limits plan seed)) = settled_all laws true soc limits plan (λ chip bounds value. Unless (run_refusal (too_many value)) (done_with (simulated_text chip value seed))) (λ chip bounds value. done_once true (simulated_text chip value seed))
-settled_asked laws other = tt
+pub settled : FilesSayOneThing → (command : CommandValue) → IsSettled true (procedure_of command)
+settled laws (Simulate soc limits plan seed) = settled_all laws true soc limits plan (λ chip bounds value. Unless (run_refusal (too_many value)) (done_with (simulated_text chip value seed))) (λ chip bounds value. done_once true (simulated_text chip value seed))
+settled laws other = tt
 
 -- both counts are one number
 both_counts : (cycles captures loaded n : ℕ) → captures ≡ n → loaded ≡ n → counts_line cycles captures loaded ≡ counts_line cycles n n

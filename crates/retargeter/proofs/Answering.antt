@@ -1,5 +1,5 @@
 -- How what is asked for is answered: there is one answer to each file, and what is written is right.
-use Rattle.std.proofs.Common.{◌≡◌, ℕ, List, Option, Some, true, subst}
+use Rattle.std.proofs.Common.{◌≡◌, ℕ, List, Option, true, subst}
 use Rattle.std.specs.FinMap.{get}
 use Rattle.outside.specs.Held.{Files, Appended}
 use Rattle.soc_model.specs.Chips.{SocValue}
@@ -32,10 +32,10 @@ use Rattle.retargeter.proofs.DataFiles.{data_one, data_refused_one}
 use Rattle.retargeter.proofs.RetargetTexts.{runs_with_data}
 
 -- the files fix the text
-pub settled_asked : FilesSayOneThing → (command : Option CommandValue) → IsSettled true (asked procedure_of command)
-settled_asked laws (Some (Retarget soc limits plan name)) =
+pub settled : FilesSayOneThing → (command : CommandValue) → IsSettled true (procedure_of command)
+settled laws (Retarget soc limits plan name) =
     settled_all laws true soc limits plan (with_data_run name) (λ chip bounds value. (data_one chip, data_refused_one chip, λ es. done_once true (retarget_text chip value es)))
-settled_asked laws other = tt
+settled laws other = tt
 
 retargeted : TrustLaws → (files : Files) (soc limits plan name text : List ℕ) (old new : Option (List ℕ)) → Answers (procedure_of (Retarget soc limits plan name)) files Done text → Appended old text new → IsRetargeted files soc limits plan name old new
 retargeted laws files soc limits plan name text old new answer put =

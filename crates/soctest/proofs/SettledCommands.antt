@@ -1,5 +1,5 @@
 -- Each command has at most one answer.
-use Rattle.std.proofs.Common.{◌≡◌, ℕ, List, Option, None, Some, true, false}
+use Rattle.std.proofs.Common.{◌≡◌, ℕ, List, Some, true, false}
 use Rattle.soc_model.specs.Chips.{SocValue}
 use Rattle.plan_model.specs.Plans.{PlanValue}
 use Rattle.soc_printer.specs.SocText.{soc_text}
@@ -11,7 +11,7 @@ use Rattle.plan_text.specs.PlanLines.{plan_text}
 use Rattle.sample_maker.specs.Samples.{made_chip}
 use Rattle.split_plan.specs.Parts.{split_chip, split_limits, split_of}
 use Rattle.shift_program.specs.Programs.{ProgramValue}
-use Rattle.commands.specs.Procedures.{Procedure, Unless, asked, done_with}
+use Rattle.commands.specs.Procedures.{Procedure, Unless, done_with}
 use Rattle.commands.specs.Settled.{IsSettled, FilesSayOneThing}
 use Rattle.commands.proofs.Settled.{done_once, left_open}
 use Rattle.commands.proofs.Completeness.{settled_chip, settled_both, settled_all}
@@ -37,7 +37,7 @@ settled_program : ProgramLaws → (chip : SocValue) (value : PlanValue) (program
 settled_program laws chip value program next last = (program_one laws chip value, program_refused_one laws chip value, last)
 
 -- each command
-settled : Laws → (command : CommandValue) → IsSettled (fixes_text (Some command)) (procedure_of command)
+pub settled : Laws → (command : CommandValue) → IsSettled (fixes_text (Some command)) (procedure_of command)
 settled laws (Print soc) = settled_chip laws.files true (λ chip. done_with (soc_text chip)) (λ chip. done_once true (soc_text chip)) soc
 settled laws (Widths soc wires) = settled_chip laws.files true (λ chip. done_with (widths_text chip wires)) (λ chip. done_once true (widths_text chip wires)) soc
 settled laws (Plan soc limits) = settled_both laws.files false soc limits done_with_plan (λ chip bounds. left_open (λ text. (value : PlanValue) × IsPlanned chip bounds value × (text ≡ plan_text value)))
@@ -64,8 +64,3 @@ settled laws (Vcd soc limits plan «data») = tt
 settled laws (Verilog soc limits plan «data») = tt
 settled laws (Report soc limits plan) = tt
 settled laws (PictureWithProof soc limits plan proof) = tt
-
--- and so has what any words ask for
-pub settled_asked : Laws → (command : Option CommandValue) → IsSettled (fixes_text command) (asked procedure_of command)
-settled_asked laws None = tt
-settled_asked laws (Some command) = settled laws command

@@ -37,16 +37,16 @@ use Rattle.cycle_texts.proofs.VectorRows.{vectors_shown}
 use Rattle.retargeter.proofs.DataFiles.{data_one, data_refused_one}
 use Rattle.retargeter.proofs.RetargetTexts.{runs_with_data}
 
--- the files fix the text
-settled : FilesSayOneThing → (language : Language) (soc limits plan name : List ℕ) → IsSettled true (program_procedure language soc limits plan name)
-settled laws language soc limits plan name =
+-- the files fix the text of each language
+settled_program : FilesSayOneThing → (language : Language) (soc limits plan name : List ℕ) → IsSettled true (program_procedure language soc limits plan name)
+settled_program laws language soc limits plan name =
     settled_all laws true soc limits plan (with_data_program language name) (λ chip bounds value. (data_one chip, data_refused_one chip, λ es. done_once true (tester_program language chip value es)))
 
-pub settled_asked : FilesSayOneThing → (command : Option CommandValue) → IsSettled true (asked procedure_of command)
-settled_asked laws (Some (Stil soc limits plan name)) = settled laws language.Stil soc limits plan name
-settled_asked laws (Some (Vcd soc limits plan name)) = settled laws language.Vcd soc limits plan name
-settled_asked laws (Some (Verilog soc limits plan name)) = settled laws language.Verilog soc limits plan name
-settled_asked laws other = tt
+pub settled : FilesSayOneThing → (command : CommandValue) → IsSettled true (procedure_of command)
+settled laws (Stil soc limits plan name) = settled_program laws language.Stil soc limits plan name
+settled laws (Vcd soc limits plan name) = settled_program laws language.Vcd soc limits plan name
+settled laws (Verilog soc limits plan name) = settled_program laws language.Verilog soc limits plan name
+settled laws other = tt
 
 programmed : TrustLaws → (language : Language) (files : Files) (soc limits plan name text : List ℕ) (old new : Option (List ℕ)) → Answers (program_procedure language soc limits plan name) files Done text → Appended old text new → IsProgrammed language files soc limits plan name old new
 programmed laws language files soc limits plan name text old new answer put =

@@ -1,13 +1,15 @@
-use Rattle.std.proofs.Common.{map, string_bytes}
+use Rattle.std.proofs.Common.{true, map, string_bytes}
 use Rattle.commands.proofs.Endings.{ending_promised}
+use Rattle.commands.proofs.Settled.{settled_asked}
+use Rattle.made_data.specs.Requests.{procedure_of}
 use Rattle.made_data.specs.Endings.{ending_value}
 use Rattle.commands.specs.Commands.{command_of}
-use Rattle.made_data.proofs.Answering.{settled_asked, headline}
+use Rattle.made_data.proofs.Answering.{settled, headline}
 use Rattle.made_data.proofs.top.make_data.Goals as goal
 
 pub returns-clause-answers : goal.returns-clause-answers
 returns-clause-answers g c =
-    ending_promised (ending_value c.decide-ending.result) (settled_asked c.files_say_one_thing.ensures (command_of (map string_bytes c.args.words.now))) c.decide-ending.ensures.closes c.decide-ending.ensures.by_loads c.decide-ending.ensures.untouched c.write_ending.ensures.written c.write_ending.ensures.puts
+    ending_promised (ending_value c.decide-ending.result) (settled_asked (λ command. true) procedure_of (settled c.files_say_one_thing.ensures) (command_of (map string_bytes c.args.words.now))) c.decide-ending.ensures.closes c.decide-ending.ensures.by_loads c.decide-ending.ensures.untouched c.write_ending.ensures.written c.write_ending.ensures.puts
 
 pub returns-clause-headline : goal.returns-clause-headline
 returns-clause-headline g c =

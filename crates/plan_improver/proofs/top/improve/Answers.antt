@@ -1,12 +1,14 @@
-use Rattle.std.proofs.Common.{map, string_bytes}
+use Rattle.std.proofs.Common.{false, map, string_bytes}
 use Rattle.commands.specs.Commands.{command_of}
-use Rattle.plan_improver.proofs.Answering.{settled_asked, headline}
+use Rattle.plan_improver.proofs.Answering.{settled, headline}
 use Rattle.commands.proofs.Promised.{verdict_promised}
+use Rattle.commands.proofs.Settled.{settled_asked}
+use Rattle.plan_improver.specs.Requests.{procedure_of}
 use Rattle.plan_improver.proofs.top.improve.Goals as goal
 
 pub returns-clause-answers : goal.returns-clause-answers
 returns-clause-answers g c =
-    verdict_promised c.decide-verdict.result (settled_asked c.files_say_one_thing.ensures (command_of (map string_bytes c.args.words.now))) c.decide-verdict.ensures.decides c.decide-verdict.ensures.by_loads c.decide-verdict.ensures.untouched c.write_verdict.ensures.written c.write_verdict.ensures.puts
+    verdict_promised c.decide-verdict.result (settled_asked (λ command. false) procedure_of (settled c.files_say_one_thing.ensures) (command_of (map string_bytes c.args.words.now))) c.decide-verdict.ensures.decides c.decide-verdict.ensures.by_loads c.decide-verdict.ensures.untouched c.write_verdict.ensures.written c.write_verdict.ensures.puts
 
 pub returns-clause-headline : goal.returns-clause-headline
 returns-clause-headline g c =

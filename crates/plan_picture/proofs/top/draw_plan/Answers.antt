@@ -1,12 +1,14 @@
-use Rattle.std.proofs.Common.{map, string_bytes}
+use Rattle.std.proofs.Common.{true, map, string_bytes}
 use Rattle.commands.specs.Commands.{command_of}
 use Rattle.plan_picture.proofs.Drawings.{headline, settled}
 use Rattle.commands.proofs.Promised.{verdict_promised}
+use Rattle.commands.proofs.Settled.{settled_asked}
+use Rattle.plan_picture.specs.Pictures.{procedure_of}
 use Rattle.plan_picture.proofs.top.draw_plan.Goals as goal
 
 pub returns-clause-answers : goal.returns-clause-answers
 returns-clause-answers g c =
-    verdict_promised c.decide-verdict.result (settled c.files_say_one_thing.ensures (record { say_one = c.proof_texts_are_settled.ensures.say_one; not_refused = c.proof_texts_are_settled.ensures.not_refused; refused_once = c.proof_texts_are_settled.ensures.refused_once; one_fault = c.proofs_have_one_fault.ensures; no_fault = c.accepted_proofs_have_no_fault.ensures }) (command_of (map string_bytes c.args.words.now))) c.decide-verdict.ensures.decides c.decide-verdict.ensures.by_loads c.decide-verdict.ensures.untouched c.write_verdict.ensures.written c.write_verdict.ensures.puts
+    verdict_promised c.decide-verdict.result (settled_asked (λ command. true) procedure_of (settled c.files_say_one_thing.ensures (record { say_one = c.proof_texts_are_settled.ensures.say_one; not_refused = c.proof_texts_are_settled.ensures.not_refused; refused_once = c.proof_texts_are_settled.ensures.refused_once; one_fault = c.proofs_have_one_fault.ensures; no_fault = c.accepted_proofs_have_no_fault.ensures })) (command_of (map string_bytes c.args.words.now))) c.decide-verdict.ensures.decides c.decide-verdict.ensures.by_loads c.decide-verdict.ensures.untouched c.write_verdict.ensures.written c.write_verdict.ensures.puts
 
 pub returns-clause-headline : goal.returns-clause-headline
 returns-clause-headline g c =
