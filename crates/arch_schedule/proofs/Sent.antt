@@ -20,6 +20,3 @@ problem_over buses lengths job p problem = record {
 
 pub room_in : (job : JobValue) (p : TimedTests) (r : ScheduleRoom) → IsProblem job p → HasRoomFor p r → HasRoom (length job.tests) r
 room_in job p r problem room = subst (λ (n : ℕ). HasRoom n r) problem.tests room
-
-pub room_back : (job : JobValue) (p : TimedTests) (r : ScheduleRoom) → IsProblem job p → HasRoom (length job.tests) r → HasRoomFor p r
-room_back job p r problem room = subst (λ (n : ℕ). HasRoom n r) (sym problem.tests) room
