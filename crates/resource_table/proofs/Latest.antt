@@ -3,8 +3,11 @@ use Rattle.std.proofs.Common.{◌≡◌, ◌⊎◌, ℕ, zero, suc, ◌+◌, ◌
 use Rattle.std.{specs.Prelude.slice_get, specs.Prelude.IfSome, specs.Prelude.vec_capacity, proofs.Math.ListN.get_or-append, proofs.Math.Seq.get_or-append_seam}
 use Rattle.std.proofs.lemmas.{Bool.cases_eq, Grind.get_or-set_at, Option.slice_get_within, List.length-set, List.get_or-set_other}
 use Rattle.plan_model.proofs.Lists.{from_append}
-use Rattle.resource_table.specs.{declared.Placement.Placement, declared.latest_ends.LatestEnds.LatestEnds, Jobs.JobValue, Jobs.test_at, Schedules.end_of}
-use Rattle.resource_table.specs.LatestEnds.{end_at, with_end, IsLater, IsBack, IsChildAt, AreLatestEnds}
+use Rattle.resource_table.specs.{declared.Placement.Placement, Schedules.end_of}
+use Rattle.busy_times.specs.declared.latest_ends.LatestEnds.{LatestEnds}
+use Rattle.resource_table.specs.Jobs.{JobValue, test_at}
+use Rattle.busy_times.specs.LatestEnds.{end_at, with_end, IsLater, IsBack}
+use Rattle.resource_table.specs.LatestEnds.{IsChildAt, AreLatestEnds}
 use Rattle.common_lemmas.proofs.Lists.{at_last, at_left}
 
 -- ---- another end at a place

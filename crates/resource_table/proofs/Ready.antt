@@ -5,7 +5,10 @@ use Rattle.std.proofs.lemmas.Bool.{cases_Bool, eqb-true, eq-eqb, and_parts, and_
 use Rattle.smallvec.specs.SmallVec.{SmallVec}
 use Rattle.plan_model.specs.Plans.{greatest}
 use Rattle.plan_model.proofs.{Lists.at_contains, Lists.any_from, Lists.from_filter, Greatest.le-greatest_at, Greatest.greatest-least}
-use Rattle.resource_table.specs.{declared.Placement.Placement, declared.power.Draw.Draw, Befores.tests_before, Befores.listed, Befores.AreListed, Jobs.JobValue, Jobs.Precedes, Resources.end_in, Kept.IsKept}
+use Rattle.resource_table.specs.{declared.Placement.Placement, Resources.end_in, Kept.IsKept}
+use Rattle.drawn_power.specs.declared.power.Draw.{Draw}
+use Rattle.resource_table.specs.Befores.{tests_before, listed, AreListed}
+use Rattle.resource_table.specs.Jobs.{JobValue, Precedes}
 use Rattle.resource_table.specs.Schedules.{end_of, last_end, precedes, ready_at, ComesAfter}
 use Rattle.live_tests.specs.declared.neighbours.Neighbours.{Neighbours}
 use Rattle.resource_table.proofs.{Befores.before_from, Befores.before_has, Placed.sound_tests, Placed.end_at, Placed.end_from}

@@ -4,12 +4,16 @@ use Rattle.std.specs.{Prelude.if◌then◌else◌, Prelude.IfSome, Prelude.vec_c
 use Rattle.std.proofs.lemmas.List.{length-map, get_or-map, map-set, take_all, Sums.sum_by-cons}
 use Rattle.plan_model.specs.declared.TheConstants.{WIRES_MOST}
 use Rattle.smallvec.specs.SmallVec.{SmallVec}
-use Rattle.resource_table.specs.declared.{JobTest.JobTest, power.Draw.Draw, points.Point.Point, table.Rows.Rows, Placement.Placement, history.History.History, timelines.Timeline.Timeline, timelines.Timelines.Timelines}
-use Rattle.resource_table.specs.declared.timelines.Kind.{Kind, TheVariants.Bus, TheVariants.Own, TheVariants.Children}
+use Rattle.resource_table.specs.{declared.JobTest.JobTest, declared.table.Rows.Rows, declared.Placement.Placement, declared.history.History.History}
+use Rattle.drawn_power.specs.{declared.power.Draw.Draw, declared.points.Point.Point}
+use Rattle.busy_times.specs.{declared.timelines.Timeline.Timeline, declared.timelines.Timelines.Timelines}
+use Rattle.resource_table.specs.declared.empty_times.Kind.{Kind}
+use Rattle.resource_table.specs.declared.empty_times.Kind.TheVariants.{Bus, Own, Children}
 use Rattle.resource_table.specs.Jobs.{TestValue, JobValue, test_value, test_at, no_test, test_over, tests_over, job_over, IsSoundJob}
 use Rattle.resource_table.specs.{Befores.AreListed, EmptyRows.AreEmptyRows, Histories.no_note, Histories.IsHistory, Kept.IsKept, Kept.IsProfiled, Kept.IsBounded}
-use Rattle.resource_table.proofs.{Bounds.bounded_new, Latest.latest_over, BusyTimes.times_new, KeptTables.kept_new, KeptTables.profiled_new}
-use Rattle.resource_table.specs.BusyTimes.{takes, room_of, IsTimeline, AreTimelines, AreTimes, AreEmptyTimes}
+use Rattle.resource_table.proofs.{Bounds.bounded_new, Latest.latest_over, PlacedTimes.times_new}
+use Rattle.resource_table.proofs.KeptTables.{kept_new, profiled_new}
+use Rattle.resource_table.specs.PlacedTimes.{takes, room_of, IsTimeline, AreTimelines, AreTimes, AreEmptyTimes}
 
 -- ---- tests over other buses
 

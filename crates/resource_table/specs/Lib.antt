@@ -3,8 +3,7 @@ pub mod Schedules
 pub mod Calm
 pub mod Resources
 pub mod LatestEnds
-pub mod BusyTimes
-pub mod Profiles
+pub mod PlacedTimes
 pub mod Befores
 pub mod EmptyRows
 pub mod Histories

@@ -1,19 +1,29 @@
 //! Empty timelines, with room for the times of all tests of a job.
 ghost use Rattle.std.specs.Prelude.{◌≡◌, ℕ, ◌+◌, ◌^◌, ◌<◌, ◌≤◌, Some, [], length, map, slice_get, slice_index_or, replicate, vec_capacity, if◌then◌else◌, IfSome, IfOk};
 ghost use Rattle.std.specs.List.{All, sum_by};
+ghost use Rattle.busy_times.specs.declared.timelines.Timeline.{Timeline};
 ghost use Rattle.resource_table.specs.declared.JobTest.{JobTest};
-ghost use Rattle.resource_table.specs.declared.timelines.Timeline.{Timeline};
-ghost use Rattle.resource_table.specs.declared.timelines.Kind.TheVariants.{Bus};
+ghost use Rattle.resource_table.specs.declared.empty_times.Kind.TheVariants.{Bus};
 ghost use Rattle.resource_table.specs.Jobs.{test_value};
 ghost use Rattle.resource_table.specs.Schedules.{is_at};
-ghost use Rattle.resource_table.specs.BusyTimes.{timeline_of as timeline_of_value, takes, least_of, AreEmpty, AreEmptyTimes};
+ghost use Rattle.resource_table.specs.PlacedTimes.{timeline_of as timeline_of_value, takes, least_of, AreEmpty, AreEmptyTimes};
 
 use crate::JobTest;
-use crate::latest_ends::new_latest_ends;
-use crate::timelines::{Kind, Timeline, Timelines};
+use busy_times::{Timeline, Timelines, new_latest_ends};
 use outside::{NoMemory, push};
 use plan_model::WIRES_MOST;
 use std::alloc::Global;
+
+/// What a timeline is of.
+#[derive(Clone, Copy)]
+pub enum Kind {
+    /// Of a bus.
+    Bus,
+    /// Of a module: its own tests.
+    Own,
+    /// Of a module: the tests of its direct children.
+    Children,
+}
 
 /// A bus takes a wire at least, so that no chip has more.
 const BUSES: usize = WIRES_MOST as usize;

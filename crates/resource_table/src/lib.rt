@@ -5,22 +5,14 @@
 #![tactic(auto)]
 
 mod copies;
-mod crowds;
 mod earlier;
 mod empty_times;
 mod excluding;
 mod frame;
 mod history;
-mod latest_ends;
 mod laws;
-mod marks;
 mod own;
-mod points;
-mod power;
-mod profile;
-mod spares;
 mod table;
-mod timelines;
 
 pub use earlier::{all_before, earlier_than};
 pub use frame::{Frame, FrameOf};

@@ -7,22 +7,22 @@ ghost use Rattle.resource_table.specs.declared.JobTest.{JobTest};
 ghost use Rattle.resource_table.specs.declared.Placement.{Placement};
 ghost use Rattle.resource_table.specs.Jobs.{test_value, job_value, cycles_of, test_over, tests_over, job_over, IsSoundJob};
 ghost use Rattle.resource_table.specs.Befores.{listed, AreListed};
-ghost use Rattle.resource_table.specs.BusyTimes.{AreEmptyTimes};
+ghost use Rattle.resource_table.specs.PlacedTimes.{busy_places as busy_places_of, AreEmptyTimes};
 ghost use Rattle.resource_table.specs.EmptyRows.{AreEmptyRows};
 ghost use Rattle.resource_table.specs.Schedules.{TableValue, at_start, last_end as last_end_of, ready_at, is_placed as is_placed_in, MeetsNone, StaysWithin, ComesAfter, Fits, IsEarliest, MayPlace, IsSoundTable};
 
 use crate::copies::copy_job;
-use crate::crowds::calm_end;
 use crate::earlier::{all_before, earlier_than};
 use crate::empty_times::empty_times;
 use crate::history::{
     History, Note, forget_notes, mark_changes, new_history, renew_note, undo_to_mark,
 };
-use crate::points::{Point, drop_last_unused};
-use crate::power::{Draw, after_power, are_low, push_draws};
-use crate::profile::{add_drawn, take_drawn};
-use crate::timelines::{Span, Timelines, add_time, after_busy, clear_times, remove_time};
 use crate::{Job, JobTest, Placement};
+use busy_times::{BusyPlaces, Span, Timelines, add_time, after_busy, clear_times, remove_time};
+use drawn_power::{
+    Draw, Point, add_drawn, after_power, are_low, calm_end, drop_last_unused, push_draws,
+    take_drawn,
+};
 use live_tests::Neighbours;
 use outside::NoMemory;
 use smallvec::SmallVec;
@@ -70,7 +70,7 @@ impl<J> Model for TableOf<J> {
 
     ghost use Rattle.resource_table.specs.Befores.{listed, AreListed};
     ghost use Rattle.resource_table.specs.Kept.{IsKept, IsProfiled, IsBounded};
-    ghost use Rattle.resource_table.specs.BusyTimes.{AreTimes};
+    ghost use Rattle.resource_table.specs.PlacedTimes.{AreTimes};
 
     ghost view = { λ t. record { job = job_value t.own; placed = t.trail.items } };
 
@@ -222,6 +222,18 @@ fn job_parts(alloc: Global, job: &Job) -> Result<JobParts, NoMemory>
     Ok(JobParts { own, times, before })
 }
 
+/// What a test keeps busy.
+#[inline(always)]
+fn busy_places(test: &JobTest) -> BusyPlaces
+    ensures { result ≡ busy_places_of (test_value test.now) }
+{
+    BusyPlaces {
+        bus: test.bus,
+        own: test.place,
+        parent: test.parent,
+    }
+}
+
 /// Takes all ends away.
 fn clear_ends(ends: &mut Vec<Option<u64>>)
     ensures { ends.new.items ≡ replicate (length ends.old.items) None }
@@ -341,7 +353,7 @@ impl<J> TableOf<J> {
             MeetsNone self.now.job self.now.placed test other → result ≤ other }
     {
         let wanted = &self.own.tests[test];
-        after_busy(&self.times, wanted, start, last)
+        after_busy(&self.times, busy_places(wanted), wanted.length, start, last)
     }
 
     /// The least start from `start` on at which a test stays within the limit on power.
@@ -543,7 +555,11 @@ impl<J> TableOf<J> {
             start,
         );
         let to = start + wanted.length;
-        add_time(&mut self.times, wanted, Span { from: start, to });
+        add_time(
+            &mut self.times,
+            busy_places(wanted),
+            Span { from: start, to },
+        );
         self.lasts.push_reserved(last.max(to));
         mark_changes(&mut self.bounds);
         self.ends[test] = Some(to);
@@ -563,7 +579,7 @@ impl<J> TableOf<J> {
             let count = self.draws.len() - steps;
             let to = last.start + gone.length;
             let from = last.start;
-            remove_time(&mut self.times, gone, Span { from, to });
+            remove_time(&mut self.times, busy_places(gone), Span { from, to });
             take_drawn(
                 self.own.power,
                 &mut self.points,

@@ -1,7 +1,8 @@
 use Rattle.std.proofs.Common.{◌≡◌, ℕ, ◌+◌, get_or, length, take, ◌∙◌, ap, sym, arith}
 use Rattle.std.{specs.Prelude.if◌then◌else◌, specs.List.sum_by, proofs.lemmas.List.with_items_is, proofs.lemmas.List.Sums.sum_by_more}
-use Rattle.resource_table.specs.{declared.JobTest.JobTest, Jobs.test_value, Schedules.is_at, BusyTimes.timeline_of, BusyTimes.takes}
-use Rattle.resource_table.proofs.BusyTimes.{few_takers}
+use Rattle.resource_table.specs.{declared.JobTest.JobTest, Jobs.test_value, Schedules.is_at}
+use Rattle.resource_table.specs.PlacedTimes.{timeline_of, takes}
+use Rattle.resource_table.proofs.PlacedTimes.{few_takers}
 use Rattle.resource_table.proofs.empty_times.count_takers.Goals as goal
 
 pub count_one-requires-clause-fits : goal.count_one-requires-clause-fits

@@ -1,6 +1,6 @@
 use Rattle.std.proofs.Common.{◌≡◌, ℕ, ◌<◌, length, take, get_or}
 use Rattle.std.specs.{Prelude.if◌then◌else◌, List.sum_by}
-use Rattle.resource_table.specs.{Jobs.test_value, BusyTimes.takes}
+use Rattle.resource_table.specs.{Jobs.test_value, PlacedTimes.takes}
 use Rattle.resource_table.proofs.empty_times.count_takers.Given as goal
 
 abbrev pub invariant-loop-test : goal.invariant-loop-test

@@ -1,6 +1,6 @@
 use Rattle.std.proofs.Common.{ℕ, ◌<◌, ◌≤◌, Option, None, Some, take, subst, ap, ◌∙◌, arith}
 use Rattle.std.{specs.Prelude.IfSome, proofs.lemmas.List.Elements.All-more, proofs.lemmas.List.Elements.All-weaker}
-use Rattle.resource_table.specs.{declared.JobTest.JobTest, Jobs.test_value, BusyTimes.timeline_of}
+use Rattle.resource_table.specs.{declared.JobTest.JobTest, Jobs.test_value, PlacedTimes.timeline_of}
 use Rattle.resource_table.proofs.empty_times.count_timelines.Goals as goal
 
 more_inside : (place : Option ℕ) (old new : ℕ) → old ≤ new → IfSome place (λ k. k < old) → IfSome place (λ k. k < new)

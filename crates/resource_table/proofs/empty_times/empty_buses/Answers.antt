@@ -1,5 +1,5 @@
 use Rattle.std.proofs.Common.{◌∙◌, arith}
-use Rattle.resource_table.proofs.BusyTimes.{empty_bus_lines}
+use Rattle.resource_table.proofs.PlacedTimes.{empty_bus_lines}
 use Rattle.resource_table.proofs.empty_times.empty_buses.Goals as goal
 
 pub returns : goal.returns

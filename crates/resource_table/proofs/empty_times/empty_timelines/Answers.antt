@@ -1,4 +1,4 @@
-use Rattle.resource_table.{proofs.BusyTimes.empty_kind}
+use Rattle.resource_table.proofs.PlacedTimes.{empty_kind}
 use Rattle.resource_table.proofs.empty_times.empty_timelines.Goals as goal
 
 pub returns : goal.returns

@@ -1,6 +1,6 @@
 use Rattle.std.proofs.Common.{◌≡◌, ℕ, zero, suc, ◌+◌, ◌≤◌, inl, inr, Some, List, [], ◌∷◌, ◌++◌, length, get_or, ap, arith, length-append, slice_get, vec_capacity}
 use Rattle.plan_model.proofs.Lists.{from_append}
-use Rattle.resource_table.specs.declared.timelines.Timeline.{Timeline}
+use Rattle.busy_times.specs.declared.timelines.Timeline.{Timeline}
 use Rattle.resource_table.proofs.empty_times.timelines_of_rooms.Goals as goal
 
 -- what holds of each timeline at its place holds also with one more

@@ -1,5 +1,5 @@
 use Rattle.std.proofs.Common.{◌≡◌, ℕ, ◌≤◌, Some, [], length, get_or, slice_get, vec_capacity}
-use Rattle.resource_table.specs.declared.timelines.Timeline.{Timeline}
+use Rattle.busy_times.specs.declared.timelines.Timeline.{Timeline}
 use Rattle.resource_table.proofs.empty_times.timelines_of_rooms.Given as goal
 
 abbrev pub invariant-loop-room : goal.invariant-loop-room

@@ -1,9 +1,13 @@
 use Rattle.std.proofs.Common.{◌≡◌, ◌∙◌, ap, ◌<◌, ℕ, List, length, map, sym, subst, arith}
 use Rattle.std.{specs.List.sum_by, proofs.lemmas.List.length-map}
-use Rattle.resource_table.specs.declared.{JobTest.JobTest, table.Rows.Rows, timelines.Timelines.Timelines}
+use Rattle.resource_table.specs.{declared.JobTest.JobTest, declared.table.Rows.Rows}
+use Rattle.busy_times.specs.declared.timelines.Timelines.{Timelines}
 use Rattle.resource_table.specs.Jobs.{IsSoundJob, TestValue, JobValue, test_value, job_value}
-use Rattle.resource_table.specs.{EmptyRows.AreEmptyRows, Befores.listed, Befores.AreListed, BusyTimes.AreTimes, BusyTimes.AreEmptyTimes, Kept.IsKept, Kept.IsProfiled, Kept.IsBounded}
-use Rattle.resource_table.proofs.{BusyTimes.times_new, Bounds.bounded_new, KeptStarts.steps_counted}
+use Rattle.resource_table.specs.EmptyRows.{AreEmptyRows}
+use Rattle.resource_table.specs.Befores.{listed, AreListed}
+use Rattle.resource_table.specs.PlacedTimes.{AreTimes, AreEmptyTimes}
+use Rattle.resource_table.specs.Kept.{IsKept, IsProfiled, IsBounded}
+use Rattle.resource_table.proofs.{PlacedTimes.times_new, Bounds.bounded_new, KeptStarts.steps_counted}
 use Rattle.resource_table.proofs.KeptTables.{kept_new, profiled_new, steps_same}
 use Rattle.resource_table.proofs.table.TableOf+ref+Job.new.Goals as goal
 

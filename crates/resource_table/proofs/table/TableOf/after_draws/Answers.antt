@@ -1,6 +1,8 @@
 use Rattle.std.proofs.Common.{◌≡◌, ◌<◌, ◌≤◌, length, refl, sym, subst, arith}
 use Rattle.std.specs.{Prelude.IfSome, List.flat_map}
-use Rattle.resource_table.specs.{Profiles.ArePoints, Jobs.job_value, Jobs.test_value, Resources.load_of, Resources.marks_of}
+use Rattle.drawn_power.specs.{Profiles.ArePoints, Draws.load_of}
+use Rattle.resource_table.specs.Jobs.{job_value, test_value}
+use Rattle.resource_table.specs.Resources.{marks_of}
 use Rattle.resource_table.specs.Schedules.{TableValue, last_end, StaysWithin}
 use Rattle.resource_table.proofs.KeptStarts.{wanted_is, short_enough, profile_now, steps_within_limit, steps_here, within_here}
 use Rattle.resource_table.proofs.table.TableOf.after_draws.Goals as goal

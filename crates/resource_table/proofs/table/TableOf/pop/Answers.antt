@@ -1,11 +1,17 @@
 use Rattle.std.proofs.Common.{◌≡◌, ◌∙◌, ◌+◌, ◌-◌, ◌++◌, ◌∷◌, length, take, [], ap, length-append, sym, subst, arith, refl, None}
 use Rattle.std.{specs.Prelude.IfSome, specs.List.flat_map, specs.Vec.with_item, proofs.lemmas.List.length-map, proofs.lemmas.List.append-nil}
-use Rattle.resource_table.specs.declared.{Placement.Placement, timelines.Span.Span}
-use Rattle.resource_table.specs.{Resources.draws_of, Resources.marks_of, Profiles.ArePoints, Histories.at_change}
+use Rattle.resource_table.specs.declared.Placement.{Placement}
+use Rattle.busy_times.specs.declared.timelines.Span.{Span}
+use Rattle.resource_table.specs.Resources.{draws_of, marks_of}
+use Rattle.drawn_power.specs.Profiles.{ArePoints}
+use Rattle.resource_table.specs.Histories.{at_change}
 use Rattle.smallvec.specs.SmallVec.{SmallVec}
 use Rattle.resource_table.specs.Jobs.{TestValue, job_value, test_value, test_at, cycles_of}
-use Rattle.resource_table.specs.BusyTimes.{AreTimes, MayRemove, IsRemoved}
-use Rattle.resource_table.proofs.{BusyTimes.may_remove, BusyTimes.times_less, Bounds.bounded_pop, KeptStarts.wanted_is, KeptMarks.before_pop, KeptMarks.after_pop}
+use Rattle.resource_table.specs.PlacedTimes.{busy_places, AreTimes}
+use Rattle.busy_times.specs.BusyTimes.{MayRemove, IsRemoved}
+use Rattle.resource_table.proofs.PlacedTimes.{may_remove, times_less}
+use Rattle.resource_table.proofs.{Bounds.bounded_pop, KeptStarts.wanted_is}
+use Rattle.resource_table.proofs.KeptMarks.{before_pop, after_pop}
 use Rattle.resource_table.proofs.KeptTables.{kept_pop, last_may, last_inside, last_steps, last_draws, length-draws_from}
 use Rattle.resource_table.proofs.table.TableOf.pop.Goals as goal
 
@@ -54,7 +60,8 @@ invariant_of-self g c =
         room = (let room = c.self.invariant.2.room in omega (arith, room, c.take_drawn.ensures.capacity));
       },
       times_less job placed c.in-Some.last inside c.self.inside.times c.remove_time.new.times (subst (λ v. AreTimes job v c.self.inside.times) c.in-Some.ensures.items c.self.invariant.3)
-          (subst (λ (t : TestValue). IsRemoved t (let s : Span = record { from = c.in-Some.last.start; to = c.in-Some.last.start + t.cycles } in s) c.self.inside.times c.remove_time.new.times) wanted c.remove_time.ensures),
+          (subst (λ (t : TestValue). IsRemoved (busy_places t) (let s : Span = record { from = c.in-Some.last.start; to = c.in-Some.last.start + t.cycles } in s) c.self.inside.times c.remove_time.new.times) wanted
+          (subst (λ places. IsRemoved places (let s : Span = record { from = c.in-Some.last.start; to = c.in-Some.last.start + c.index-gone.result.now.length } in s) c.self.inside.times c.remove_time.new.times) c.busy_places.ensures c.remove_time.ensures)),
       bounded_pop job placed c.self.inside.trail.items c.in-Some.last c.self.inside.bounds c.undo_to_mark.new.history c.in-Some.ensures.items c.self.invariant.4 c.undo_to_mark.ensures.history c.undo_to_mark.ensures.long c.undo_to_mark.ensures.past c.undo_to_mark.ensures.room,
     )
 
@@ -90,8 +97,9 @@ pub remove_time-requires : goal.remove_time-requires
 remove_time-requires g c =
     let inside = last_inside c.self.invariant.0 c.pop.new.self.items c.in-Some.last c.in-Some.ensures.items in
     let wanted = wanted_is c.self.inside.own.tests.items c.in-Some.last.test c.index-gone.result.now inside c.index-gone.ensures in
-    subst (λ (t : TestValue). MayRemove c.self.inside.times t (let s : Span = record { from = c.in-Some.last.start; to = c.in-Some.last.start + t.cycles } in s)) (sym wanted)
-    (may_remove (job_value c.self.inside.own) c.pop.new.self.items c.in-Some.last inside c.self.inside.times (subst (λ v. AreTimes (job_value c.self.inside.own) v c.self.inside.times) c.in-Some.ensures.items c.self.invariant.3))
+    subst (λ places. MayRemove c.self.inside.times places (let s : Span = record { from = c.in-Some.last.start; to = c.in-Some.last.start + c.index-gone.result.now.length } in s)) (sym c.busy_places.ensures)
+    (subst (λ (t : TestValue). MayRemove c.self.inside.times (busy_places t) (let s : Span = record { from = c.in-Some.last.start; to = c.in-Some.last.start + t.cycles } in s)) (sym wanted)
+    (may_remove (job_value c.self.inside.own) c.pop.new.self.items c.in-Some.last inside c.self.inside.times (subst (λ v. AreTimes (job_value c.self.inside.own) v c.self.inside.times) c.in-Some.ensures.items c.self.invariant.3)))
 
 -- where nothing was placed the trail is as it was
 same_trail : (old new : SmallVec Placement) → old.items ≡ new.items ++ [] → new.capacity ≡ old.capacity → old ≡ new

@@ -1,11 +1,16 @@
 use Rattle.std.proofs.Common.{◌≡◌, ◌+◌, ◌^◌, ◌≤◌, ◌∙◌, ◌++◌, ◌∷◌, [], ℕ, length, set, max, refl, sym, subst, ap, arith, Some, lit<, length-append}
 use Rattle.std.{specs.Prelude.IfSome, specs.Vec.with_item, specs.List.flat_map, specs.List.All, proofs.lemmas.List.length-map}
-use Rattle.resource_table.specs.declared.{timelines.Span.Span}
-use Rattle.resource_table.specs.{Profiles.ArePoints, BusyTimes.AreTimes, BusyTimes.IsAdded}
+use Rattle.busy_times.specs.declared.timelines.Span.{Span}
+use Rattle.drawn_power.specs.Profiles.{ArePoints}
+use Rattle.resource_table.specs.PlacedTimes.{busy_places, AreTimes}
+use Rattle.busy_times.specs.BusyTimes.{MayAdd, IsAdded}
 use Rattle.resource_table.specs.Jobs.{TestValue, job_value, test_value, test_at, cycles_of, no_test}
 use Rattle.resource_table.specs.Schedules.{TableValue, at_start, last_end, MayPlace}
-use Rattle.resource_table.specs.Resources.{draws_from, draws_of, marks_of}
-use Rattle.resource_table.proofs.{BusyTimes.may_add, BusyTimes.times_more, KeptStarts.wanted_is, Bounds.bounded_push, Bounds.marks_have_room}
+use Rattle.drawn_power.specs.Draws.{draws_from}
+use Rattle.resource_table.specs.Resources.{draws_of, marks_of}
+use Rattle.resource_table.proofs.PlacedTimes.{may_add, times_more}
+use Rattle.resource_table.proofs.KeptStarts.{wanted_is}
+use Rattle.resource_table.proofs.Bounds.{bounded_push, marks_have_room}
 use Rattle.resource_table.proofs.KeptTables.{kept_push, trail_has_room, draws_have_room, length-draws_from}
 use Rattle.resource_table.proofs.KeptMarks.{last_room, last_within, before_last, after_push}
 use Rattle.soc_model.specs.declared.TheConstants.{NUMBER_WORD_MOST}
@@ -47,7 +52,7 @@ pub add_time-requires : goal.add_time-requires
 add_time-requires g c =
     let may = rw (← c.self.view_is) at c.requires in
     let wanted = wanted_is c.self.inside.own.tests.items c.args.test c.index-wanted.result.now may.in_job c.index-wanted.ensures in
-    rw wanted (may_add (job_value c.self.inside.own) c.self.inside.trail.items c.self.invariant.0.sound c.args.test c.args.start may c.self.inside.times c.self.invariant.3)
+    subst (MayAdd c.self.inside.times) (sym (c.busy_places.ensures ∙ ap busy_places wanted)) (may_add (job_value c.self.inside.own) c.self.inside.trail.items c.self.invariant.0.sound c.args.test c.args.start may c.self.inside.times c.self.invariant.3)
 
 pub push_reserved-requires-2 : goal.push_reserved-requires-2
 push_reserved-requires-2 g c =
@@ -86,7 +91,8 @@ invariant_of-self g c =
       },
       subst (λ v. AreTimes job v c.add_time.new.times) (sym c.push_reserved-2.ensures.items)
           (times_more job placed c.self.invariant.0.sound c.args.test c.args.start may c.self.inside.times c.add_time.new.times c.self.invariant.3
-          (subst (λ (t : TestValue). IsAdded t (let s : Span = record { from = c.args.start; to = c.args.start + t.cycles } in s) c.self.inside.times c.add_time.new.times) wanted c.add_time.ensures)),
+          (subst (λ (t : TestValue). IsAdded (busy_places t) (let s : Span = record { from = c.args.start; to = c.args.start + t.cycles } in s) c.self.inside.times c.add_time.new.times) wanted
+          (subst (λ places. IsAdded places (let s : Span = record { from = c.args.start; to = c.args.start + c.index-wanted.result.now.length } in s) c.self.inside.times c.add_time.new.times) c.busy_places.ensures c.add_time.ensures))),
       bounded_push job placed c.push_reserved-2.new.self.items (at_start c.args.test c.args.start) c.self.inside.bounds c.mark_changes.new.history c.push_reserved-2.ensures.items c.self.invariant.4 c.mark_changes.ensures.history c.mark_changes.ensures.values c.mark_changes.ensures.past c.mark_changes.ensures.room,
     )
 

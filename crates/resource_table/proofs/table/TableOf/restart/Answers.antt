@@ -3,7 +3,7 @@ use Rattle.std.{specs.Vec.with_items, proofs.lemmas.List.with_items_is, proofs.l
 use Rattle.resource_table.specs.declared.{Job.Job, JobTest.JobTest, Placement.Placement, table.Rows.Rows}
 use Rattle.resource_table.specs.{Befores.listed, Schedules.TableValue}
 use Rattle.resource_table.specs.Jobs.{JobValue, test_value, job_value, tests_over, job_over}
-use Rattle.resource_table.proofs.Restarts.{rows_emptied, kept_anew, length-tests_over}
+use Rattle.resource_table.proofs.{Emptying.emptied, Restarts.rows_emptied, Restarts.kept_anew, Restarts.length-tests_over}
 use Rattle.resource_table.proofs.table.TableOf.restart.Goals as goal
 
 -- the job that is written back is the one over the other buses
@@ -32,7 +32,7 @@ invariant_of-self g c =
     (rows_emptied c.self.invariant.0 c.self.invariant.2 c.self.invariant.4 rows
     c.clear_trail.ensures.items c.clear_trail.ensures.room c.clear_ends.ensures c.clear.ensures.items c.clear.ensures.capacity c.clear-2.ensures.items c.clear-2.ensures.capacity c.clear-3.ensures.items c.clear-3.ensures.capacity
     c.forget_notes.ensures.values c.forget_notes.ensures.marks c.forget_notes.ensures.history c.forget_notes.ensures.room)
-    (map listed was.before.items) c.self.invariant.1 c.clear_times.new.times (c.clear_times.ensures old was.trail.items c.self.invariant.3))
+    (map listed was.before.items) c.self.invariant.1 c.clear_times.new.times (emptied old was.trail.items was.times c.clear_times.new.times c.self.invariant.3 c.clear_times.ensures))
 
 pub returns-clause-empty : goal.returns-clause-empty
 returns-clause-empty g c =

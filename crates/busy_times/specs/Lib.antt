@@ -1,0 +1,2 @@
+pub mod LatestEnds
+pub mod BusyTimes

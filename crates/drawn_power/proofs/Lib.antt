@@ -1,0 +1,7 @@
+mod Near
+pub mod Profiles
+pub mod Ordered
+mod Marked
+mod Gaps
+mod Sweeps
+mod FittingSteps

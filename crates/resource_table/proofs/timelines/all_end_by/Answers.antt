@@ -1,7 +1,0 @@
-use Rattle.std.proofs.Common.{arith}
-use Rattle.resource_table.{specs.declared.timelines.Span.Span, proofs.Spans.last_most}
-use Rattle.resource_table.proofs.timelines.all_end_by.Goals as goal
-
-pub returns : goal.returns
-returns c _ k d lt =
-    omega (arith, last_most (λ (s : Span). s.to) c.args.spans.now k d (record { from = 0; to = 0 }) c.requires lt, c.if-spans-count.false)

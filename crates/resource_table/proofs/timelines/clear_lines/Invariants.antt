@@ -1,5 +1,0 @@
-use Rattle.resource_table.proofs.Emptying.{AreClearedTo}
-use Rattle.resource_table.proofs.timelines.clear_lines.Given as goal
-
-abbrev pub invariant-loop-at : goal.invariant-loop-at
-invariant-loop-at l = AreClearedTo l.at l.initial.lines.items l.lines.items
