@@ -231,6 +231,7 @@ fn after_steps(
 }
 
 /// The least start from `start` on at which a test of these steps stays within the limit beside what the points tell.
+#[inline(always)]
 pub fn after_power(
     points: &[Point],
     limit: u64,

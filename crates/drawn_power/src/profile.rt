@@ -135,6 +135,7 @@ fn take_draws(points: &mut Vec<Point>, draws: &[Draw], count: usize, start: u64)
 
 /// Under a limit on power, adds the draws from a place on, those of a test from a start, in room that is there. Without a
 /// limit no profile is kept.
+#[inline(always)]
 pub fn add_drawn(
     limit: Option<u64>,
     points: &mut Vec<Point>,
@@ -160,6 +161,7 @@ pub fn add_drawn(
 
 /// Under a limit on power, takes away all draws but the first `count`: those of a test from a start. Without a limit no
 /// profile is kept.
+#[inline(always)]
 pub fn take_drawn(
     limit: Option<u64>,
     points: &mut Vec<Point>,
