@@ -353,7 +353,8 @@ impl<J> TableOf<J> {
             MeetsNone self.now.job self.now.placed test other → result ≤ other }
     {
         let wanted = &self.own.tests[test];
-        after_busy(&self.times, busy_places(wanted), wanted.length, start, last)
+        let places = busy_places(wanted);
+        after_busy(&self.times, places, wanted.length, start, last)
     }
 
     /// The least start from `start` on at which a test stays within the limit on power.
@@ -555,11 +556,8 @@ impl<J> TableOf<J> {
             start,
         );
         let to = start + wanted.length;
-        add_time(
-            &mut self.times,
-            busy_places(wanted),
-            Span { from: start, to },
-        );
+        let places = busy_places(wanted);
+        add_time(&mut self.times, places, Span { from: start, to });
         self.lasts.push_reserved(last.max(to));
         mark_changes(&mut self.bounds);
         self.ends[test] = Some(to);
@@ -579,7 +577,8 @@ impl<J> TableOf<J> {
             let count = self.draws.len() - steps;
             let to = last.start + gone.length;
             let from = last.start;
-            remove_time(&mut self.times, busy_places(gone), Span { from, to });
+            let places = busy_places(gone);
+            remove_time(&mut self.times, places, Span { from, to });
             take_drawn(
                 self.own.power,
                 &mut self.points,

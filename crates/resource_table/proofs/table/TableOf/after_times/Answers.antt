@@ -23,7 +23,7 @@ pub returns-clause-apart : goal.returns-clause-apart
 returns-clause-apart g c =
     let inside = subst (λ (t : TableValue). c.args.test < length t.job.tests) (sym c.self.view_is) c.requires.in_job in
     let wanted = wanted_is c.self.inside.own.tests.items c.args.test c.index-wanted.result.now inside c.index-wanted.ensures in
-    let free = subst (λ places. IsFree c.self.inside.times places c.index-wanted.result.now.length c.after_busy.result) (c.busy_places.ensures ∙ ap busy_places wanted) c.after_busy.ensures.free in
+    let free = subst (λ places. IsFree c.self.inside.times places c.index-wanted.result.now.length c.after_busy.result) (c.busy_places-places.ensures ∙ ap busy_places wanted) c.after_busy.ensures.free in
     subst (λ (t : TableValue). MeetsNone t.job t.placed c.args.test c.after_busy.result) c.self.view_is
     (meets_from_free (job_value c.self.inside.own) c.self.inside.trail.items c.self.invariant.0.sound c.self.inside.times c.self.invariant.3 c.args.test c.after_busy.result
     (subst (λ (t : TestValue). IsFree c.self.inside.times (busy_places (test_at (job_value c.self.inside.own) c.args.test)) t.cycles c.after_busy.result) wanted free))
@@ -34,6 +34,6 @@ returns-clause-least g c =
     let wanted = wanted_is c.self.inside.own.tests.items c.args.test c.index-wanted.result.now inside c.index-wanted.ensures in
     let lasts = (c.self.invariant.0.sound.job.tests c.args.test no_test inside).lasts in
     λ other later. subst (λ (t : TableValue). MeetsNone t.job t.placed c.args.test other → c.after_busy.result ≤ other) c.self.view_is
-    (λ meets. c.after_busy.ensures.least other later (subst (λ places. IsFree c.self.inside.times places c.index-wanted.result.now.length other) (sym c.busy_places.ensures)
+    (λ meets. c.after_busy.ensures.least other later (subst (λ places. IsFree c.self.inside.times places c.index-wanted.result.now.length other) (sym c.busy_places-places.ensures)
     (subst (λ (t : TestValue). IsFree c.self.inside.times (busy_places t) t.cycles other) (sym wanted)
     (free_from_meets (job_value c.self.inside.own) c.self.inside.trail.items c.self.invariant.0.sound c.self.inside.times c.self.invariant.3 c.args.test other lasts meets))))

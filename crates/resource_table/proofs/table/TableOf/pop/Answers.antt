@@ -61,7 +61,7 @@ invariant_of-self g c =
       },
       times_less job placed c.in-Some.last inside c.self.inside.times c.remove_time.new.times (subst (λ v. AreTimes job v c.self.inside.times) c.in-Some.ensures.items c.self.invariant.3)
           (subst (λ (t : TestValue). IsRemoved (busy_places t) (let s : Span = record { from = c.in-Some.last.start; to = c.in-Some.last.start + t.cycles } in s) c.self.inside.times c.remove_time.new.times) wanted
-          (subst (λ places. IsRemoved places (let s : Span = record { from = c.in-Some.last.start; to = c.in-Some.last.start + c.index-gone.result.now.length } in s) c.self.inside.times c.remove_time.new.times) c.busy_places.ensures c.remove_time.ensures)),
+          (subst (λ places. IsRemoved places (let s : Span = record { from = c.in-Some.last.start; to = c.in-Some.last.start + c.index-gone.result.now.length } in s) c.self.inside.times c.remove_time.new.times) c.busy_places-places.ensures c.remove_time.ensures)),
       bounded_pop job placed c.self.inside.trail.items c.in-Some.last c.self.inside.bounds c.undo_to_mark.new.history c.in-Some.ensures.items c.self.invariant.4 c.undo_to_mark.ensures.history c.undo_to_mark.ensures.long c.undo_to_mark.ensures.past c.undo_to_mark.ensures.room,
     )
 
@@ -97,7 +97,7 @@ pub remove_time-requires : goal.remove_time-requires
 remove_time-requires g c =
     let inside = last_inside c.self.invariant.0 c.pop.new.self.items c.in-Some.last c.in-Some.ensures.items in
     let wanted = wanted_is c.self.inside.own.tests.items c.in-Some.last.test c.index-gone.result.now inside c.index-gone.ensures in
-    subst (λ places. MayRemove c.self.inside.times places (let s : Span = record { from = c.in-Some.last.start; to = c.in-Some.last.start + c.index-gone.result.now.length } in s)) (sym c.busy_places.ensures)
+    subst (λ places. MayRemove c.self.inside.times places (let s : Span = record { from = c.in-Some.last.start; to = c.in-Some.last.start + c.index-gone.result.now.length } in s)) (sym c.busy_places-places.ensures)
     (subst (λ (t : TestValue). MayRemove c.self.inside.times (busy_places t) (let s : Span = record { from = c.in-Some.last.start; to = c.in-Some.last.start + t.cycles } in s)) (sym wanted)
     (may_remove (job_value c.self.inside.own) c.pop.new.self.items c.in-Some.last inside c.self.inside.times (subst (λ v. AreTimes (job_value c.self.inside.own) v c.self.inside.times) c.in-Some.ensures.items c.self.invariant.3)))
 

@@ -52,7 +52,7 @@ pub add_time-requires : goal.add_time-requires
 add_time-requires g c =
     let may = rw (← c.self.view_is) at c.requires in
     let wanted = wanted_is c.self.inside.own.tests.items c.args.test c.index-wanted.result.now may.in_job c.index-wanted.ensures in
-    subst (MayAdd c.self.inside.times) (sym (c.busy_places.ensures ∙ ap busy_places wanted)) (may_add (job_value c.self.inside.own) c.self.inside.trail.items c.self.invariant.0.sound c.args.test c.args.start may c.self.inside.times c.self.invariant.3)
+    subst (MayAdd c.self.inside.times) (sym (c.busy_places-places.ensures ∙ ap busy_places wanted)) (may_add (job_value c.self.inside.own) c.self.inside.trail.items c.self.invariant.0.sound c.args.test c.args.start may c.self.inside.times c.self.invariant.3)
 
 pub push_reserved-requires-2 : goal.push_reserved-requires-2
 push_reserved-requires-2 g c =
@@ -92,7 +92,7 @@ invariant_of-self g c =
       subst (λ v. AreTimes job v c.add_time.new.times) (sym c.push_reserved-2.ensures.items)
           (times_more job placed c.self.invariant.0.sound c.args.test c.args.start may c.self.inside.times c.add_time.new.times c.self.invariant.3
           (subst (λ (t : TestValue). IsAdded (busy_places t) (let s : Span = record { from = c.args.start; to = c.args.start + t.cycles } in s) c.self.inside.times c.add_time.new.times) wanted
-          (subst (λ places. IsAdded places (let s : Span = record { from = c.args.start; to = c.args.start + c.index-wanted.result.now.length } in s) c.self.inside.times c.add_time.new.times) c.busy_places.ensures c.add_time.ensures))),
+          (subst (λ places. IsAdded places (let s : Span = record { from = c.args.start; to = c.args.start + c.index-wanted.result.now.length } in s) c.self.inside.times c.add_time.new.times) c.busy_places-places.ensures c.add_time.ensures))),
       bounded_push job placed c.push_reserved-2.new.self.items (at_start c.args.test c.args.start) c.self.inside.bounds c.mark_changes.new.history c.push_reserved-2.ensures.items c.self.invariant.4 c.mark_changes.ensures.history c.mark_changes.ensures.values c.mark_changes.ensures.past c.mark_changes.ensures.room,
     )
 
