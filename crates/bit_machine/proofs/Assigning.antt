@@ -9,21 +9,14 @@ use Rattle.plan_model.specs.Plans.{PlannedTest, uses, is_active, end_of}
 use Rattle.plan_model.specs.Runs.{Content}
 use Rattle.plan_model.specs.Right.{IsAt}
 use Rattle.bit_machine.specs.Lanes.{lane_on, IsLane}
-use Rattle.bit_machine.specs.Machines.{FitLanes, AreStepped, AreOnWires, AreUsers, AreUsersBelow, AreUnchanged, AreNow, AreSomeStepped, AreSomeUsers, IsUnchanged, IsLaneUnchanged, IsMachine, IsSomeMachine}
-use Rattle.bit_machine.specs.declared.lane.Lane.{Lane}
+use Rattle.bit_machine.specs.Machines.{FitLanes, AreStepped, AreUsers, AreUsersBelow, AreUnchanged, AreNow, AreSomeStepped, AreSomeUsers, IsUnchanged, IsLaneUnchanged, IsMachine, IsSomeMachine}
+use Rattle.vector_lines.specs.Wires.{AreOnWires}
+use Rattle.vector_lines.specs.declared.lane.Lane.{Lane}
 use Rattle.bit_machine.specs.declared.machine.Machine.{Machine}
 use Rattle.bit_machine.specs.declared.stepped.SteppedLane.{SteppedLane}
 use Rattle.common_lemmas.proofs.Lists.{set_here, some_item}
 use Rattle.common_lemmas.proofs.Options.{none_some}
-
--- ---- an entry that is written
-
-pub set_elsewhere : {X : Type 0} (xs : List X) (i j : ℕ) (y : X) → j ≢ i → slice_get (set xs i y) j ≡ slice_get xs j
-set_elsewhere [] i j y h = refl
-set_elsewhere (x ∷ xs) zero zero y h = absurd (h refl)
-set_elsewhere (x ∷ xs) zero (suc j) y h = refl
-set_elsewhere (x ∷ xs) (suc i) zero y h = refl
-set_elsewhere (x ∷ xs) (suc i) (suc j) y h = set_elsewhere xs i j y (λ e. h (ap suc e))
+use Rattle.vector_lines.proofs.Columns.{set_elsewhere}
 
 -- ---- a range of entries
 

@@ -1,9 +1,10 @@
 -- A capture, part by part of a chain.
-use Rattle.std.proofs.Common.{◌≡◌, ℕ, zero, suc, ◌+◌, ◌≤◌, ◌<◌, Bool, true, false, cond, List, [], ◌∷◌, ◌++◌, length, get_or, map, take, drop, refl, ap, ◌∙◌, arith, slice_index, sum}
+use Rattle.std.proofs.Common.{◌≡◌, ℕ, zero, suc, ◌+◌, ◌≤◌, ◌<◌, Bool, false, cond, List, [], ◌∷◌, ◌++◌, length, get_or, map, take, drop, refl, ap, ◌∙◌, arith, slice_index, sum}
 use Rattle.std.specs.List.{range_with_len}
 use Rattle.plan_model.specs.Cells.{Cell, Flop, Out, is_read, in_cells, out_cells, flops}
 use Rattle.plan_model.specs.Runs.{captured}
 use Rattle.bit_machine.specs.Sessions.{response_bit}
+use Rattle.vector_lines.proofs.Responses.{AreRead, range_map}
 
 pub length-captured : (f : Cell → Bool) (xs : List Cell) (bits : List Bool) → length (captured f xs bits) ≡ length bits
 length-captured f [] bits = refl
@@ -15,15 +16,6 @@ pub captured-ins : (f : Cell → Bool) (i n : ℕ) (bits : List Bool) → captur
 captured-ins f i zero bits = refl
 captured-ins f i (suc n) [] = refl
 captured-ins f i (suc n) (b ∷ bits) = ap (λ v. b ∷ v) (captured-ins f (i + 1) n bits)
-
--- all cells of a list are read
-abbrev pub AreRead : List Cell → Type 0
-AreRead [] = Unit {0}
-AreRead (x ∷ xs) = (is_read x ≡ true) × AreRead xs
-
-pub read_numbered : (g : ℕ → Cell) → ((k : ℕ) → is_read (g k) ≡ true) → (i n : ℕ) → AreRead (map g (range_with_len i n))
-read_numbered g each i zero = tt
-read_numbered g each i (suc n) = (each i, read_numbered g each (i + 1) n)
 
 module _ (f : Cell → Bool) where
   captured-read : (ys : List Cell) (bits : List Bool) → AreRead ys → length ys ≤ length bits → captured f ys bits ≡ map f ys ++ drop (length ys) bits
@@ -56,10 +48,6 @@ reads_range xs s i (suc n) j same fits =
     cut [] j n h = absurd (omega arith)
     cut (x ∷ xs) zero n h = refl
     cut (x ∷ xs) (suc j) n h = cut xs j n (omega arith)
-
-pub range_map : {X : Type 0} (f : Cell → X) (g : ℕ → Cell) (i n : ℕ) → map f (map g (range_with_len i n)) ≡ map (λ k. f (g k)) (range_with_len i n)
-range_map f g i zero = refl
-range_map f g i (suc n) = ap (λ v. f (g i) ∷ v) (range_map f g (i + 1) n)
 
 pub flop_answers : (lengths : List ℕ) (response : List Bool) (c : ℕ) {s : ℕ} → s ≡ sum (take c lengths) →
     s + slice_index lengths c ≤ length response →

@@ -13,7 +13,8 @@ use Rattle.plan_model.proofs.ChainsInTheRun.{uses_wire, at_operation}
 use Rattle.plan_model.proofs.LoadsAndReads.{begun_at}
 use Rattle.bit_machine.specs.Chips.{is_capture, loads_right, captures_at, right_loads_at}
 use Rattle.bit_machine.specs.Lanes.{lane_bits, capture_answer}
-use Rattle.bit_machine.specs.Machines.{lanes_state, AreOnWires, IsMachine, IsUser, HasNoUser, IsWireCapture, one_capture, one_right}
+use Rattle.bit_machine.specs.Machines.{lanes_state, IsMachine, IsUser, HasNoUser, IsWireCapture, one_capture, one_right}
+use Rattle.vector_lines.specs.Wires.{AreOnWires}
 use Rattle.bit_machine.specs.declared.stepped.SteppedLane.{SteppedLane}
 use Rattle.bit_machine.specs.declared.machine.Machine.{Machine}
 use Rattle.common_lemmas.proofs.Options.{none_some}

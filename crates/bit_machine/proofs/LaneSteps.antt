@@ -11,14 +11,15 @@ use Rattle.plan_model.specs.Plans.{PlannedTest}
 use Rattle.plan_model.specs.Runs.{Content, chain_at, next_bits, wanted}
 use Rattle.plan_model.proofs.Lists.{from_append}
 use Rattle.bit_machine.specs.Chips.{chain_holds, holds}
-use Rattle.bit_machine.specs.Packed.{is_set}
-use Rattle.bit_machine.specs.Paths.{made_from, path_stimulus, path_response, is_answered, IsPath}
+use Rattle.bit_machine.specs.Packed.{is_set, IsLineWord}
+use Rattle.vector_lines.specs.Made.{made_from}
+use Rattle.bit_machine.specs.Lanes.{path_stimulus, path_response, lane_bits, lane_on, loaded_bit, resting_bits, AreAtRest, IsAtRest, IsPageWord, ArePages, AreRings, IsReady, IsSound, IsSteppable, IsNow, IsSameTest, IsLane}
+use Rattle.vector_lines.specs.Paths.{is_answered, IsPath}
 use Rattle.plan_model.specs.Moments.{moment_operation, moment_ahead, moment_behind, wanted_by}
-use Rattle.bit_machine.specs.Lanes.{lane_bits, lane_on, loaded_bit, resting_bits, AreAtRest, IsAtRest, IsPageWord, ArePages, AreRings, IsReady, IsSound, IsSteppable, IsNow, IsSameTest, IsLane}
-use Rattle.bit_machine.specs.Numbers.{line_bit, IsLineWord}
-use Rattle.bit_machine.specs.declared.made.Line.{Line}
-use Rattle.bit_machine.specs.declared.path.Path.{Path}
-use Rattle.bit_machine.specs.declared.lane.Lane.{Lane}
+use Rattle.vector_lines.specs.Numbers.{line_bit}
+use Rattle.vector_lines.specs.declared.made.Line.{Line}
+use Rattle.vector_lines.specs.declared.path.Path.{Path}
+use Rattle.vector_lines.specs.declared.lane.Lane.{Lane}
 use Rattle.bit_machine.specs.declared.stepped.Page.{Page}
 use Rattle.bit_machine.specs.declared.stepped.SteppedLane.{SteppedLane}
 use Rattle.common_lemmas.proofs.Tests.{and_false}

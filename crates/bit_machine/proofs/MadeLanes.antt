@@ -1,42 +1,20 @@
--- The made contents of a seed stand for the tests of a chip, and its lanes have them.
-use Rattle.std.proofs.Common.{◌≡◌, ℕ, ◌+◌, ◌*◌, ◌<◌, true, Some, List, ap, sym, ◌∙◌, arith, inl, inr, slice_get}
+-- The lanes of a chip under test have the made contents of its seed.
+use Rattle.std.proofs.Common.{◌≡◌, ℕ, ◌+◌, ◌*◌, ◌<◌, true, List, arith, inl, inr}
 use Rattle.std.proofs.Math.Path.{fun_ext}
 use Rattle.std.proofs.lemmas.Bool.{cases_Bool}
 use Rattle.std.proofs.lemmas.Nat.{mod_below}
 use Rattle.std.proofs.lemmas.Option.{slice_get_within}
-use Rattle.soc_model.specs.Chips.{SocValue, LiveTest, live_tests, id_of}
+use Rattle.soc_model.specs.Chips.{SocValue}
 use Rattle.soc_model.specs.SoundChips.{IsSoundChip}
-use Rattle.plan_model.specs.Cells.{Cell}
 use Rattle.plan_model.specs.Plans.{PlanValue, PlannedTest}
-use Rattle.bit_machine.specs.Chips.{made_content, made_stimulus, made_response}
+use Rattle.vector_lines.specs.Made.{made_content, made_keys}
 use Rattle.bit_machine.specs.Lanes.{IsLane, IsWired}
-use Rattle.bit_machine.specs.Machines.{AreLanes}
-use Rattle.bit_machine.specs.Marks.{digit, response_digits}
-use Rattle.bit_machine.specs.Paths.{made_drive, made_keys, made_mark, path_stimulus, path_response}
-use Rattle.bit_machine.specs.Placed.{key_of, lengths_of, inputs_of, IsPlacedLane, StandFor}
-use Rattle.bit_machine.specs.declared.lane.Lane.{Lane}
-use Rattle.bit_machine.proofs.MadeBits.{made_from_is}
+use Rattle.vector_lines.specs.Lanes.{AreLanes}
+use Rattle.vector_lines.specs.Placed.{lengths_of, inputs_of, IsPlacedLane}
+use Rattle.vector_lines.specs.declared.lane.Lane.{Lane}
 use Rattle.bit_machine.proofs.LaneSteps.{sound_path}
-use Rattle.bit_machine.proofs.PlacedLanes.{live_content, placed_id}
-
--- ---- the made contents of a live test
-
-module _ {soc : SocValue} (sound : IsSoundChip soc) (seed i : ℕ) {l : LiveTest} (at : slice_get (live_tests soc) i ≡ Some l) (k : ℕ) (x : Cell) where
-  made_stimulus_is : (made_content soc seed).stimulus (id_of l) k x ≡ path_stimulus (key_of (made_keys seed) l) (inputs_of l) (lengths_of l) k x
-  unfolding made_content
-  made_stimulus_is = live_content sound i at (λ l. made_stimulus seed l k x) ∙ sym (made_from_is seed l.place _ k _ 0)
-
-  made_response_is : (made_content soc seed).response (id_of l) k x ≡ path_response (key_of (made_keys seed) l) (lengths_of l) k x
-  unfolding made_content
-  made_response_is = live_content sound i at (λ l. made_response seed l k x) ∙ sym (made_from_is seed l.place _ k _ 1)
-
-pub made_stand : (soc : SocValue) (seed : ℕ) → IsSoundChip soc → StandFor (made_keys seed) made_drive made_mark soc (made_content soc seed) (response_digits (made_content soc seed))
-made_stand soc seed sound = record {
-  stimulus = λ i l at tam k x. made_stimulus_is sound seed i at k x;
-  answers = λ i l at tam k x. ap digit (made_response_is sound seed i at k x);
-}
-
--- ---- the lanes of a chip under test
+use Rattle.vector_lines.proofs.PlacedLanes.{placed_id}
+use Rattle.vector_lines.proofs.MadeStand.{made_stimulus_is, made_response_is}
 
 module _ (seed : ℕ) {soc : SocValue} {plan : PlanValue} {t : PlannedTest} {l : Lane} (is : IsPlacedLane (made_keys seed) soc plan t l) where
   small_key : l.key < 997

@@ -1,5 +1,5 @@
 -- A chip before its first cycle.
-use Rattle.std.proofs.Common.{◌≡◌, ℕ, zero, suc, ◌+◌, ◌-◌, ◌^◌, ◌≤◌, ◌<◌, Bool, true, Some, List, [], ◌∷◌, length, get_or, map, refl, ap, sym, subst, ◌∙◌, arith, inl, inr, slice_get, sum_by}
+use Rattle.std.proofs.Common.{◌≡◌, ℕ, zero, suc, ◌-◌, ◌^◌, ◌≤◌, ◌<◌, true, Some, List, [], ◌∷◌, length, get_or, map, refl, ap, sym, subst, ◌∙◌, arith, inl, inr, slice_get, sum_by}
 use Rattle.std.proofs.lemmas.List.{length-map, get_or-map}
 use Rattle.std.proofs.lemmas.List.Sums.{sum_by-cons}
 use Rattle.std.proofs.lemmas.Bool.{cases_Bool}
@@ -8,30 +8,24 @@ use Rattle.soc_model.specs.Chips.{SocValue, LiveTest, live_tests}
 use Rattle.soc_model.specs.Sizes.{test_work}
 use Rattle.soc_model.specs.SoundChips.{IsSoundChip}
 use Rattle.soc_model.proofs.Limits.{work-le}
-use Rattle.plan_model.specs.Plans.{BusValue, PlanValue, LimitsValue, PlannedTest, planned, planned_test, chains_of, operations_of, widths}
+use Rattle.plan_model.specs.Plans.{PlanValue, LimitsValue, PlannedTest, planned, planned_test, chains_of, operations_of}
 use Rattle.plan_model.specs.Runs.{Content, chain_at, bits_at, first_state}
 use Rattle.plan_model.specs.Rules.{IsGood, IsGoodAlone, Wrappers, Proper, bare_limits}
-use Rattle.plan_model.specs.Views.{bus_value}
 use Rattle.plan_model.proofs.ShortTests.{short_test, planned_operations}
-use Rattle.plan_model.specs.declared.Bus.{Bus}
-use Rattle.live_tests.specs.Wires.{AreFirstWires}
-use Rattle.live_tests.proofs.FirstWires.{all_at}
-use Rattle.bit_machine.specs.Chips.{made_content, wires_of, at_first}
-use Rattle.bit_machine.specs.Lanes.{lane_bits, AreAtRest, IsAtRest, IsFilled, IsLane}
-use Rattle.bit_machine.specs.Machines.{lanes_state, AreLanes, AreOnWires, AreSomeLanes, AreSomeStepped, AreStepped, IsMachine}
-use Rattle.bit_machine.specs.Marks.{Keys, Marks}
-use Rattle.bit_machine.specs.Placed.{IsPlacedLane, StandFor}
-use Rattle.bit_machine.specs.Vectors.{AreVectors, IsLineOf}
+use Rattle.vector_lines.specs.Made.{made_content}
+use Rattle.vector_lines.specs.Wires.{wires_of, AreOnWires}
+use Rattle.bit_machine.specs.Chips.{at_first}
+use Rattle.bit_machine.specs.Lanes.{lane_bits, AreAtRest, IsAtRest, IsLane}
+use Rattle.vector_lines.specs.Lanes.{AreLanes}
+use Rattle.bit_machine.specs.Machines.{lanes_state, AreSomeStepped, AreStepped, IsMachine}
 use Rattle.bit_machine.specs.WholeChips.{to_come, IsChip}
-use Rattle.bit_machine.specs.declared.lane.Lane.{Lane}
+use Rattle.vector_lines.specs.declared.lane.Lane.{Lane}
 use Rattle.bit_machine.specs.declared.machine.Machine.{Machine}
-use Rattle.bit_machine.specs.declared.path.Path.{Path}
+use Rattle.vector_lines.specs.declared.path.Path.{Path}
 use Rattle.bit_machine.specs.declared.stepped.SteppedLane.{SteppedLane}
-use Rattle.bit_machine.specs.declared.vectors.Vectors.{Vectors}
-use Rattle.bit_machine.proofs.GoodWires.{good_wires}
+use Rattle.vector_lines.proofs.GoodWires.{good_wires}
 use Rattle.bit_machine.proofs.LaneSteps.{rest_bits, rest_steppable}
 use Rattle.bit_machine.proofs.Layouts.{zeros}
-use Rattle.bit_machine.proofs.PlacedLanes.{filled_lane, keyed_lane}
 use Rattle.bit_machine.proofs.WireSteps.{state_is, lanes_width}
 use Rattle.bit_machine.proofs.WholeChip.{chip_view}
 use Rattle.common_lemmas.proofs.Lists.{some_item}
@@ -96,31 +90,6 @@ module _ (soc : SocValue) (plan : PlanValue) (seed : ℕ) {n : ℕ} {lanes : Lis
     room = let first = room_at_first (bare_limits plan) plan sound good in rw start (omega arith);
   }
 
-module _ {keys : Keys} {soc : SocValue} {plan : PlanValue} (v : Vectors) where
-  -- what is kept of the vectors of a plan
-  pub new_vectors : IsGoodAlone soc plan → v.wires ≡ wires_of plan → AreLanes (IsPlacedLane keys soc plan) (planned soc plan) v.lanes.items →
-      AreVectors keys soc plan v
-  new_vectors good wide are = record {
-    are = are;
-    on = subst (AreOnWires (planned soc plan)) (sym wide) (good_wires soc (bare_limits plan) plan good (made_content soc 0));
-    all = wide;
-  }
-
-  pub vectors_some : AreVectors keys soc plan v → AreSomeLanes keys v.lanes.items v.wires
-  vectors_some is = record {
-    tests = planned soc plan;
-    are = record { long = is.are.long; lane = λ i t l at there. keyed_lane (is.are.lane i t l at there) };
-    on = is.on;
-  }
-
-  pub vectors_lines : {drive : ℕ → ℕ → ℕ → Bool} {mark : ℕ → ℕ → ℕ → ℕ} {content : Content} {marks : Marks} (from count : ℕ) (text : List ℕ) →
-      AreVectors keys soc plan v → StandFor keys drive mark soc content marks →
-      ((content : Content) (marks : Marks) (tests : List PlannedTest) → AreLanes (IsFilled drive mark content marks) tests v.lanes.items → AreOnWires tests v.wires → (r : ℕ) → r < count → IsLineOf content marks tests v.wires (from + r) r text) →
-      (r : ℕ) → r < count → IsLineOf content marks (planned soc plan) (wires_of plan) (from + r) r text
-  vectors_lines {content} {marks} from count text is stand lines r h =
-      subst (λ n. IsLineOf content marks (planned soc plan) n (from + r) r text) is.all
-      (lines content marks (planned soc plan) (record { long = is.are.long; lane = λ i t l at there. filled_lane (is.are.lane i t l at there) stand }) is.on r h)
-
 some_stepped : (ls : List SteppedLane) (i : ℕ) → i < length ls → (l : SteppedLane) × (slice_get ls i ≡ Some l)
 some_stepped [] i h = absurd (omega arith)
 some_stepped (l ∷ ls) zero h = (l, refl)
@@ -164,9 +133,3 @@ new_state soc seed {tests} {lanes} {stepped} {m} is same are rest =
 
 pub first_value : (s : SocValue) (p : PlanValue) (seed : ℕ) (m : Machine) → m.cycle ≡ 0 → lanes_state m.lanes.items ≡ first_state (made_content s seed) (planned s p) → chip_view s p seed m 0 0 ≡ at_first s p seed
 first_value s p seed m start f = rw (start, f) refl
-
--- the entry behind the first wires of all buses
-pub wires_are : (buses : List Bus) (plan : PlanValue) {firsts : List ℕ} (count : ℕ) {wires : ℕ} → plan.buses ≡ map bus_value buses →
-    AreFirstWires (widths plan) firsts → count ≡ length buses → wires ≡ get_or firsts count wires → wires ≡ wires_of plan
-wires_are buses plan {firsts} count {wires} is are all at =
-    all_at (widths plan) firsts count wires are (all ∙ sym (length-map buses bus_value) ∙ ap length (sym is) ∙ sym (length-map plan.buses (λ (b : BusValue). b.width))) at

@@ -6,8 +6,10 @@ use Rattle.plan_model.specs.Cells.{Cell, In, is_loaded, is_read, in_length}
 use Rattle.plan_model.specs.Runs.{captured}
 use Rattle.plan_model.proofs.ChainShifts.{get_or-captured, length-captured}
 use Rattle.bit_machine.specs.Chips.{same_bit, chain_holds}
-use Rattle.bit_machine.specs.declared.path.Path.{Path}
-use Rattle.bit_machine.specs.Paths.{IsPath, path_stimulus, path_response, made_from}
+use Rattle.vector_lines.specs.declared.path.Path.{Path}
+use Rattle.vector_lines.specs.Paths.{IsPath}
+use Rattle.bit_machine.specs.Lanes.{path_stimulus, path_response}
+use Rattle.vector_lines.specs.Made.{made_from}
 use Rattle.common_lemmas.proofs.Lists.{any_default}
 use Rattle.common_lemmas.proofs.Tests.{and_false}
 use mathlib.Core.Bool.{beq}

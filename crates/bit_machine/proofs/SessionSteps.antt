@@ -4,9 +4,9 @@ use Rattle.std.proofs.lemmas.List.{length-take-le}
 use Rattle.plan_model.specs.Cells.{Cell}
 use Rattle.plan_model.specs.Operations.{Shift, Capture}
 use Rattle.plan_model.specs.Runs.{captured}
-use Rattle.bit_machine.specs.declared.layout.Layout.{Layout}
-use Rattle.bit_machine.specs.Sessions.{SessionValue, after, entered, each_with, response_bit}
-use Rattle.bit_machine.specs.Layouts.{layout_cells, IsLong}
+use Rattle.vector_lines.specs.declared.layout.Layout.{Layout}
+use Rattle.bit_machine.specs.Sessions.{SessionValue, after, entered, each_with, response_bit, IsLong}
+use Rattle.vector_lines.specs.Layouts.{layout_cells}
 use Rattle.bit_machine.proofs.Captures.{length-captured}
 use Rattle.bit_machine.proofs.EachWith.{each_with-map, each_with-lengths}
 use Rattle.bit_machine.proofs.Layouts.{length-bits, length-layout}

@@ -8,7 +8,7 @@ use Rattle.plan_model.specs.Runs.{Content}
 use Rattle.plan_model.proofs.TestsInGoodPlans.{uses_is}
 use Rattle.bit_machine.specs.Lanes.{lane_bits, lane_on, ArePages, IsBusy, IsLane, IsNow, IsSameTest, IsSteppable}
 use Rattle.bit_machine.specs.Machines.{lanes_state, AreStepped, AreNow, AreNowBelow, AreSomeUsers, IsStood}
-use Rattle.bit_machine.specs.declared.lane.Lane.{Lane}
+use Rattle.vector_lines.specs.declared.lane.Lane.{Lane}
 use Rattle.bit_machine.specs.declared.stepped.SteppedLane.{SteppedLane}
 use Rattle.bit_machine.proofs.Assigning.{on_is, uses_from}
 use Rattle.bit_machine.proofs.LaneSteps.{same_bits, same_on, same_steppable}

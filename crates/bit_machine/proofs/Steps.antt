@@ -7,7 +7,8 @@ use Rattle.plan_model.specs.Cells.{Cell, Flop, in_cells, flops}
 use Rattle.plan_model.specs.Runs.{captured}
 use Rattle.bit_machine.specs.Sessions.{each_with, response_bit}
 use Rattle.bit_machine.proofs.EachWith.{length-each_with, each_with-past, each_with-more}
-use Rattle.bit_machine.proofs.Captures.{AreRead, read_numbered, captured-more, flop_answers}
+use Rattle.vector_lines.proofs.Responses.{AreRead, read_numbered}
+use Rattle.bit_machine.proofs.Captures.{captured-more, flop_answers}
 use Rattle.bit_machine.proofs.Layouts.{length-ins, length-flops, length-flop}
 use Rattle.common_lemmas.proofs.Lists.{any_default}
 

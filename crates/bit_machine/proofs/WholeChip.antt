@@ -8,7 +8,9 @@ use Rattle.plan_model.specs.Plans.{PlanValue, PlannedTest, planned}
 use Rattle.plan_model.specs.Runs.{Content, carried, shown, operation_at}
 use Rattle.plan_model.proofs.LoadsAndReads.{begun_at}
 use Rattle.plan_model.proofs.TestsInGoodPlans.{uses_is}
-use Rattle.bit_machine.specs.Chips.{ChipValue, made_content, wires_of, carried_bits, shown_bits, chip_content, chip_tests, is_capture, captures_at, right_loads_at, IsCompared}
+use Rattle.bit_machine.specs.Chips.{ChipValue, carried_bits, shown_bits, chip_content, chip_tests, is_capture, captures_at, right_loads_at}
+use Rattle.vector_lines.specs.Made.{made_content}
+use Rattle.vector_lines.specs.Wires.{wires_of, IsCompared}
 use Rattle.bit_machine.specs.Machines.{lanes_state, IsMachine, IsMark}
 use Rattle.bit_machine.specs.WholeChips.{to_come, IsChip}
 use Rattle.bit_machine.specs.declared.machine.Machine.{Machine}

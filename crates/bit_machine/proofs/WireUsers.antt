@@ -1,36 +1,28 @@
 -- The user of a wire, and what it carries, shows and answers.
-use Rattle.std.proofs.Common.{◌≡◌, ℕ, suc, ◌+◌, ◌-◌, ◌≤◌, ◌<◌, Bool, true, false, Option, Some, None, List, [], ◌∷◌, length, get_or, drop, reverse, refl, ap, sym, ◌∙◌, arith, inl, inr, zero-add, slice_get}
-use Rattle.std.proofs.lemmas.List.{get_or-map, get_or_past, get_or-reverse, length-reverse}
-use Rattle.std.proofs.lemmas.List.Sums.{count_by-le-length}
-use Rattle.std.proofs.lemmas.Option.{slice_get-get_or, get_or_from_slice_get, slice_get_within, same_Some}
-use Rattle.std.proofs.lemmas.Bool.{cases_lt, false_from_ne_true, lt-ltb, ltb-true}
-use Rattle.plan_model.specs.Cells.{Cell, In, is_read, out_length}
+use Rattle.std.proofs.Common.{◌≡◌, ℕ, ◌-◌, ◌≤◌, ◌<◌, Bool, true, false, Some, None, List, [], length, get_or, drop, refl, ap, sym, ◌∙◌, arith, zero-add, slice_get}
+use Rattle.std.proofs.lemmas.List.{get_or-map}
+use Rattle.std.proofs.lemmas.Option.{get_or_from_slice_get, slice_get_within, same_Some}
+use Rattle.std.proofs.lemmas.Bool.{lt-ltb}
+use Rattle.plan_model.specs.Cells.{Cell, out_length}
 use Rattle.plan_model.specs.Operations.{Capture}
 use Rattle.plan_model.specs.Plans.{PlannedTest, uses, IsActive}
 use Rattle.plan_model.specs.Runs.{Content, wanted, last_bit, chain_at, bits_at, at_first_user, carried, shown}
 use Rattle.plan_model.specs.OneTest.{from_end}
 use Rattle.plan_model.specs.Right.{IsAt, IsReadAt}
 use Rattle.plan_model.proofs.ChainsInTheRun.{at_first_user_is}
-use Rattle.plan_model.proofs.LoadsAndReads.{begun_at, at_start_plus, chain_is}
+use Rattle.plan_model.proofs.LoadsAndReads.{begun_at, chain_is}
 use Rattle.plan_model.proofs.TestsInGoodPlans.{uses_is}
-use Rattle.bit_machine.specs.Chips.{IsCompared}
-use Rattle.bit_machine.specs.Paths.{is_answered}
-use Rattle.plan_model.specs.Moments.{phase_ops, moment_behind, IsMoment}
-use Rattle.plan_model.specs.declared.moments.Moment.{Moment}
+use Rattle.vector_lines.specs.Wires.{IsCompared}
+use Rattle.vector_lines.specs.Paths.{is_answered}
+use Rattle.plan_model.specs.Moments.{phase_ops, moment_behind}
 use Rattle.bit_machine.specs.Lanes.{lane_bits, IsBusy, IsWired, IsLane, IsNow}
 use Rattle.bit_machine.specs.Machines.{lanes_state, IsMachine, IsSomeMachine, IsUser, HasWire, HasNoUser}
 use Rattle.bit_machine.proofs.Assigning.{from_uses}
-use Rattle.bit_machine.specs.declared.lane.Lane.{Lane}
+use Rattle.vector_lines.specs.declared.lane.Lane.{Lane}
 use Rattle.bit_machine.specs.declared.stepped.SteppedLane.{SteppedLane}
 use Rattle.bit_machine.specs.declared.machine.Machine.{Machine}
 use Rattle.common_lemmas.proofs.Options.{none_some}
-
--- a wire without a user
-pub nobody : (f : ℕ → PlannedTest → ℕ → Bool) (c x n : ℕ) (tests : List PlannedTest) → ((i : ℕ) (t : PlannedTest) → IsAt tests i t → uses c x t ≡ true → ⊥) → at_first_user f c x n tests ≡ false
-nobody f c x n [] none = refl
-nobody f c x n (t ∷ tests) none =
-    let other = false_from_ne_true (uses c x t) (λ e. none 0 t refl e) in
-    rw other (nobody f c x (n + 1) tests (λ i u at e. none (suc i) u at e))
+use Rattle.vector_lines.proofs.WireReads.{nobody, from_answered, read_there}
 
 pub user_place : {content : Content} {tests : List PlannedTest} {m : Machine} (is : IsMachine content tests m) (w : ℕ) {i : ℕ} →
     slice_get m.users.items w ≡ Some (Some i) → i < length m.lanes.items
@@ -135,42 +127,6 @@ module _ {content : Content} {tests : List PlannedTest} {m : Machine} (is : IsMa
           a ∙ rw (chain, behind) (lt-ltb read.shifts (out_length (chain_at t read.chain)) within)
 
 -- and what is found there is read
-pub from_answered : (cells : List Cell) (a : Option (ℕ × ℕ)) → is_answered cells a ≡ true → (s : ℕ) × (k : ℕ) × (a ≡ Some (s, k)) × (s < out_length cells)
-from_answered cells None e = absurd cc
-from_answered cells (Some a) e = (a.0, a.1, refl, ltb-true a.0 (out_length cells) e)
-
-pub at_end : (cells : List Cell) (s : ℕ) → s < out_length cells → slice_get (reverse cells) s ≡ Some (from_end cells s)
-at_end cells s h =
-    let few = count_by-le-length is_read cells in
-    slice_get-get_or (reverse cells) s (In 0) (rw (length-reverse cells) (omega arith)) ∙ ap Some (get_or-reverse cells s (In 0) (omega arith))
-
-pub read_there : (t : PlannedTest) (l : Lane) (c : ℕ) {n : ℕ} (w j s k : ℕ) {m : Moment} → t.operations ≡ phase_ops l.phases → t.start ≤ c →
-    c - t.start ≡ n → w ≡ t.first_wire + j → IsMoment l.phases n m → moment_behind m ≡ Some (s, k) → s < out_length (chain_at t j) →
-    IsReadAt t k (from_end (chain_at t j) s) c w
-read_there t l c w j s k operations begun at wire now behind few =
-    let q = now.behind s k behind in
-    record {
-      chain = j;
-      cells = chain_at t j;
-      there = chain_there t j s few;
-      shifts = s;
-      within = few;
-      cell = at_end (chain_at t j) s few;
-      capture = t.start + q.0;
-      captures = at_start_plus t q.0 (Capture k) (rw (← operations) at q.1);
-      cycle = omega (arith, q.2);
-      wire = wire;
-    }
-  where
-    chain_there : (t : PlannedTest) (j s : ℕ) → s < out_length (chain_at t j) → slice_get t.chains j ≡ Some (chain_at t j)
-    chain_there t j s h = elim (cases_lt j (length t.chains)) [
-      | inl less ↦ slice_get-get_or t.chains j [] less
-      | inr past ↦
-          let empty = get_or_past t.chains j [] past in
-          let h' = rw empty at h in
-          absurd (omega arith)
-    ]
-
 pub answer_compared : {content : Content} {tests : List PlannedTest} {m : Machine} {w i : ℕ} {l : SteppedLane} (u : IsUser content tests m w i l)
     {b : Bool} → l.lane.first_wire ≤ w →
     ((content : Content) (t : PlannedTest) → t.tam ≡ true → IsLane content t l.lane → b ≡ is_answered (chain_at t (w - l.lane.first_wire)) (moment_behind l.moment)) →

@@ -1,56 +1,13 @@
 -- A whole chip under test, cycle by cycle: the made contents, the bits on the wires, and what is counted.
-use Rattle.std.specs.Prelude.{◌≡◌, ℕ, ◌+◌, ◌*◌, ◌%◌, Bool, true, false, not, ◌||◌, Option, Some, None, List, map, length, take, nat_eq}
-use Rattle.std.specs.List.{sum, count_by, zip, list_all, range_with_len, position_or_len}
-use Rattle.soc_model.specs.declared.Test.{Test}
-use Rattle.soc_model.specs.declared.TestId.{TestId}
-use Rattle.soc_model.specs.Chips.{SocValue, LiveTest, live_tests, id_of, same_test}
-use Rattle.plan_model.specs.Cells.{Cell, In, Flop, Out, is_loaded}
-use Rattle.soc_model.specs.Modes.{scan_lengths}
+use Rattle.std.specs.Prelude.{◌≡◌, ℕ, Bool, true, false, not, ◌||◌, Option, Some, None, List, map, length}
+use Rattle.std.specs.List.{count_by, zip, list_all, range_with_len}
+use Rattle.soc_model.specs.Chips.{SocValue}
+use Rattle.plan_model.specs.Cells.{Cell, is_loaded}
 use Rattle.plan_model.specs.Operations.{Operation, Setup, Shift, Capture, SelfTest}
-use Rattle.plan_model.specs.Plans.{PlanValue, PlannedTest, planned, of_first, widths}
+use Rattle.plan_model.specs.Plans.{PlanValue, PlannedTest, planned}
 use Rattle.plan_model.specs.Runs.{Content, State, operation_at, first_state, carried, shown}
-use Rattle.plan_model.specs.Right.{IsAt, IsReadAt}
-use Rattle.bit_machine.specs.Sessions.{response_place}
-
--- ---- made contents
-
--- where a cell's bit stands in a stimulus: the input cells by number, then the cells of the scan chains by scan chain and place
-abbrev pub stimulus_place : (inputs : ℕ) (lengths : List ℕ) → Cell → ℕ
-stimulus_place inputs lengths (In k) = k
-stimulus_place inputs lengths (Flop c i) = inputs + (sum (take c lengths) + i)
-stimulus_place inputs lengths (Out k) = 0
-
--- the square of a number is odd, modulo 997
-abbrev pub has_odd_square : ℕ → Bool
-has_odd_square v = nat_eq (((v * v) % 997) % 2) 1
-
--- Bit `n` of pattern `k` of the test at place `t` of the module at place `m`; `s` is 0 in a stimulus and 1 in a response.
-unfoldable pub made_bit : (seed m t k n s : ℕ) → Bool
-made_bit seed m t k n s = has_odd_square ((seed + 31 * m + 17 * t + 101 * k + 7 * n + 3 * (n * k) + s) % 997)
-
--- the place of a live test among all tests of its module
-abbrev pub test_place : LiveTest → ℕ
-test_place l = position_or_len (λ (t : Test). nat_eq t.number l.test.number) l.core.tests
-
--- the made bit of a cell of a live test, in a stimulus and in a response
-abbrev pub made_stimulus : (seed : ℕ) → LiveTest → ℕ → Cell → Bool
-made_stimulus seed l k x =
-    made_bit seed l.place (test_place l) k (stimulus_place (l.core.inputs + l.core.bidirs) (scan_lengths l.core l.test.scan) x) 0
-
-abbrev pub made_response : (seed : ℕ) → LiveTest → ℕ → Cell → Bool
-made_response seed l k x = made_bit seed l.place (test_place l) k (response_place (scan_lengths l.core l.test.scan) x) 1
-
--- what the live test of that name says; 0 where there is none
-abbrev pub of_live : SocValue → TestId → (LiveTest → Bool) → Bool
-of_live soc id f = of_first (λ (l : LiveTest). same_test (id_of l) id) f false (live_tests soc)
-
--- the made contents of a chip: all cells begin with 0
-unfoldable pub made_content : SocValue → (seed : ℕ) → Content
-made_content soc seed = record {
-  initial = λ id x. false;
-  stimulus = λ id k x. of_live soc id (λ l. made_stimulus seed l k x);
-  response = λ id k x. of_live soc id (λ l. made_response seed l k x);
-}
+use Rattle.vector_lines.specs.Made.{made_content}
+use Rattle.vector_lines.specs.Wires.{wires_of}
 
 -- ---- a chip under test
 
@@ -86,10 +43,6 @@ at_first soc plan seed = record {
 
 -- ---- the wires
 
--- the wires of all buses
-abbrev pub wires_of : PlanValue → ℕ
-wires_of plan = sum (widths plan)
-
 -- `f` of each wire
 abbrev pub each_wire : PlanValue → (ℕ → Bool) → List Bool
 each_wire plan f = map f (range_with_len 0 (wires_of plan))
@@ -100,15 +53,6 @@ carried_bits chip = each_wire chip.plan (carried (chip_content chip) (chip_tests
 
 abbrev pub shown_bits : ChipValue → List Bool
 shown_bits chip = each_wire chip.plan (shown (chip_tests chip) chip.state chip.cycle)
-
--- a response bit is read on the wire at the cycle: of a test, one of its patterns, and a cell
-pub record IsCompared (tests : List PlannedTest) (c w : ℕ) : Type 0 where
-  pub place : ℕ
-  pub test : PlannedTest
-  pub pattern : ℕ
-  pub cell : Cell
-  pub at : IsAt tests place test
-  pub read : IsReadAt test pattern cell c w
 
 -- ---- what is counted
 

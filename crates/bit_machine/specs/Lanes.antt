@@ -4,15 +4,16 @@ use Rattle.plan_model.specs.Cells.{Cell, out_length}
 use Rattle.plan_model.specs.Operations.{Operation, Setup, Shift, Capture, SelfTest}
 use Rattle.plan_model.specs.Plans.{PlannedTest, end_of}
 use Rattle.plan_model.specs.Runs.{Content, chain_at}
-use Rattle.bit_machine.specs.declared.path.Path.{Path}
-use Rattle.bit_machine.specs.declared.lane.Lane.{Lane}
+use Rattle.vector_lines.specs.declared.path.Path.{Path}
+use Rattle.vector_lines.specs.declared.lane.Lane.{Lane}
 use Rattle.bit_machine.specs.declared.stepped.Page.{Page}
 use Rattle.bit_machine.specs.declared.stepped.SteppedLane.{SteppedLane}
 use Rattle.bit_machine.specs.Chips.{holds}
 use Rattle.bit_machine.specs.Packed.{is_set}
-use Rattle.bit_machine.specs.Marks.{IsKey, Keys, Marks}
-use Rattle.bit_machine.specs.Paths.{made_from, numbered_marks, numbered_stimulus, path_stimulus, path_response, IsPath}
+use Rattle.vector_lines.specs.Made.{made_from}
+use Rattle.vector_lines.specs.Paths.{IsPath}
 use Rattle.plan_model.specs.Moments.{phase_ops, moment_ahead, ArePhases, IsMoment}
+use Rattle.vector_lines.specs.Places.{response_place, stimulus_place}
 
 -- the bits of the chains
 abbrev pub lane_bits : SteppedLane → List (List Bool)
@@ -21,6 +22,13 @@ lane_bits lane = lane.rings.items
 -- over the wires and active at the cycle
 abbrev pub lane_on : Lane → ℕ → Bool
 lane_on lane cycle = lane.tam && (nat_le lane.start cycle && nat_lt cycle lane.end)
+
+-- what a path loads and answers by made bits
+abbrev pub path_stimulus : (base inputs : ℕ) (lengths : List ℕ) → ℕ → Cell → Bool
+path_stimulus base inputs lengths k x = made_from base k (stimulus_place inputs lengths x) 0
+
+abbrev pub path_response : (base : ℕ) (lengths : List ℕ) → ℕ → Cell → Bool
+path_response base lengths k x = made_from base k (response_place lengths x) 1
 
 -- a path that can be stepped
 pub record IsSound (p : Path) : Type 0 where
@@ -63,40 +71,6 @@ pub record IsSteppable (s : SteppedLane) : Type 0 where
 pub record IsBusy (lane : Lane) (cycle : ℕ) : Type 0 where
   pub begun : lane.start ≤ cycle
   pub going : cycle - lane.start < length (phase_ops lane.phases)
-
--- a test over the wires: its operations, its wires, and its chains; `inputs` and `lengths` say what the places of its bits are counted by
-pub record IsRouted (inputs : ℕ) (lengths : List ℕ) (t : PlannedTest) (lane : Lane) : Type 0 where
-  pub operations : t.operations ≡ phase_ops lane.phases
-  pub out_fits : (j : ℕ) → out_length (chain_at t j) ≤ lane.phases.so
-  pub first_wire : lane.first_wire ≡ t.first_wire
-  pub width : lane.width ≡ t.width
-  pub chains : length lane.paths.items ≡ length t.chains
-  pub path : (j : ℕ) (p : Path) → slice_get lane.paths.items j ≡ Some p → IsPath inputs lengths (chain_at t j) p
-
--- the lane of a live test of the plan, whatever its contents; a self test has no chains
-pub record IsFitted (inputs : ℕ) (lengths : List ℕ) (t : PlannedTest) (lane : Lane) : Type 0 where
-  pub phases : ArePhases lane.phases
-  pub tam : lane.tam ≡ t.tam
-  pub start : lane.start ≡ t.start
-  pub ends : lane.end ≡ end_of t
-  pub wired : t.tam ≡ true → IsRouted inputs lengths t lane
-  pub alone : t.tam ≡ false → (length lane.paths.items ≡ 0) × (length t.chains ≡ 0)
-
--- a lane with contents: by its key and by the numbers of its bits, `drive` has what its test loads, and `mark` what stands where it answers
-pub record IsFilled (drive : ℕ → ℕ → ℕ → Bool) (mark : ℕ → ℕ → ℕ → ℕ) (content : Content) (marks : Marks) (t : PlannedTest)
-    (lane : Lane) : Type 0 where
-  pub inputs : ℕ
-  pub lengths : List ℕ
-  pub fitted : IsFitted inputs lengths t lane
-  pub stimulus : t.tam ≡ true → content.stimulus t.id ≡ numbered_stimulus (drive lane.key) inputs lengths
-  pub answers : t.tam ≡ true → marks t.id ≡ numbered_marks (mark lane.key) lengths
-
--- a lane whose test is known by its key
-pub record IsKeyed (keys : Keys) (t : PlannedTest) (lane : Lane) : Type 0 where
-  pub inputs : ℕ
-  pub lengths : List ℕ
-  pub fitted : IsFitted inputs lengths t lane
-  pub key : lane.tam ≡ true → IsKey keys lane.key
 
 -- a test over the wires: its operations, its wires, and its chains with the made contents
 pub record IsWired (content : Content) (t : PlannedTest) (lane : Lane) : Type 0 where

@@ -1,14 +1,7 @@
 pub mod Sessions
-pub mod Layouts
 pub mod Chips
-pub mod Paths
-pub mod Numbers
 pub mod Packed
 pub mod Rings
 pub mod Lanes
 pub mod Machines
 pub mod WholeChips
-pub mod Building
-pub mod Placed
-pub mod Marks
-pub mod Vectors

@@ -1,40 +1,24 @@
 -- How the machine of a whole chip keeps all live tests, and which test each wire belongs to.
 use Rattle.std.specs.Prelude.{◌≡◌, ◌≢◌, ℕ, ◌+◌, ◌<◌, ◌≤◌, ◌⊎◌, Bool, true, false, Option, Some, None, List, [], map, length, get_or, slice_get}
-use Rattle.plan_model.specs.Cells.{Cell}
-use Rattle.plan_model.specs.Operations.{Capture}
 use Rattle.plan_model.specs.Plans.{PlannedTest, end_of, uses}
 use Rattle.plan_model.specs.Runs.{Content, State, operation_at, bits_at, chain_at, next_bits}
-use Rattle.plan_model.specs.Right.{IsAt, IsReadAt}
-use Rattle.bit_machine.specs.declared.lane.Lane.{Lane}
+use Rattle.plan_model.specs.Right.{IsAt}
+use Rattle.vector_lines.specs.declared.lane.Lane.{Lane}
 use Rattle.bit_machine.specs.declared.stepped.SteppedLane.{SteppedLane}
 use Rattle.bit_machine.specs.declared.machine.Machine.{Machine}
-use Rattle.bit_machine.specs.Chips.{is_capture, loads_right, IsCompared}
-use Rattle.bit_machine.specs.Lanes.{lane_bits, lane_on, ArePages, IsKeyed, IsNow, IsLane, IsSameTest, IsSteppable}
-use Rattle.bit_machine.specs.Marks.{Keys}
+use Rattle.bit_machine.specs.Chips.{is_capture, loads_right}
+use Rattle.vector_lines.specs.Wires.{IsCompared, AreOnWires}
+use Rattle.bit_machine.specs.Lanes.{lane_bits, lane_on, ArePages, IsNow, IsLane, IsSameTest, IsSteppable}
 
 -- the bits of the chains of each test
 abbrev pub lanes_state : List SteppedLane → State
 lanes_state lanes = map lane_bits lanes
-
--- the lanes of the tests, in their order: `Is` holds of each test and its lane
-pub record AreLanes (Is : PlannedTest → Lane → Type 0) (tests : List PlannedTest) (lanes : List Lane) : Type 0 where
-  pub long : length lanes ≡ length tests
-  pub lane : (i : ℕ) (t : PlannedTest) (l : Lane) → IsAt tests i t → slice_get lanes i ≡ Some l → Is t l
 
 -- the stepped lanes of the tests, in their order
 pub record AreStepped (content : Content) (tests : List PlannedTest) (lanes : List SteppedLane) : Type 0 where
   pub long : length lanes ≡ length tests
   pub lane : (i : ℕ) (t : PlannedTest) (s : SteppedLane) → IsAt tests i t → slice_get lanes i ≡ Some s → IsLane content t s.lane
   pub steppable : (i : ℕ) (s : SteppedLane) → slice_get lanes i ≡ Some s → IsSteppable s
-
--- what a good plan gives of its tests over `wires` wires: no wire has two users, and only what is on the wires is captured or read
-pub record AreOnWires (tests : List PlannedTest) (wires : ℕ) : Type 0 where
-  pub alone : (c x i i' : ℕ) (t t' : PlannedTest) → IsAt tests i t → IsAt tests i' t' → uses c x t ≡ true → uses c x t' ≡ true → i' ≡ i
-  pub within : (i : ℕ) (t : PlannedTest) → IsAt tests i t → t.tam ≡ true → t.first_wire + t.width ≤ wires
-  pub some : (i : ℕ) (t : PlannedTest) → IsAt tests i t → t.tam ≡ true → 1 ≤ t.width
-  pub fit : (i : ℕ) (t : PlannedTest) → IsAt tests i t → length t.chains ≤ t.width
-  pub captures : (i c k : ℕ) (t : PlannedTest) → IsAt tests i t → operation_at t c ≡ Some (Capture k) → t.tam ≡ true
-  pub reads : (i k c w : ℕ) (t : PlannedTest) (x : Cell) → IsAt tests i t → IsReadAt t k x c w → uses c w t ≡ true
 
 -- for each wire the place of the test that uses it
 pub record AreUsers (tests : List PlannedTest) (c : ℕ) (users : List (Option ℕ)) : Type 0 where
@@ -65,11 +49,6 @@ pub record IsMachine (content : Content) (tests : List PlannedTest) (m : Machine
   pub now : AreNow m.lanes.items m.cycle
 
 -- of some tests
-pub record AreSomeLanes (keys : Keys) (lanes : List Lane) (wires : ℕ) : Type 0 where
-  pub tests : List PlannedTest
-  pub are : AreLanes (IsKeyed keys) tests lanes
-  pub on : AreOnWires tests wires
-
 pub record AreSomeStepped (lanes : List SteppedLane) (wires : ℕ) : Type 0 where
   pub content : Content
   pub tests : List PlannedTest

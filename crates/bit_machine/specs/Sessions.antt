@@ -1,11 +1,14 @@
 -- One module in its wrapper, cycle by cycle.
-use Rattle.std.specs.Prelude.{ℕ, ◌+◌, Bool, false, Some, List, [], ◌∷◌, map, length, take, slice_index_or}
-use Rattle.std.specs.List.{sum, range_with_len}
+use Rattle.std.specs.Prelude.{ℕ, Bool, false, Some, List, [], ◌∷◌, map, length, take, slice_index_or, ◌≡◌}
+use Rattle.std.specs.List.{range_with_len}
 use Rattle.soc_model.specs.Chips.{ModuleValue}
-use Rattle.plan_model.specs.Cells.{Cell, In, Flop, Out, ChainValue, chain_cells}
+use Rattle.plan_model.specs.Cells.{Cell, ChainValue, chain_cells}
 use Rattle.soc_model.specs.Modes.{scan_lengths}
 use Rattle.plan_model.specs.Operations.{Operation}
 use Rattle.plan_model.specs.Runs.{next_bits}
+use Rattle.vector_lines.specs.declared.layout.Layout.{Layout}
+use Rattle.vector_lines.specs.Layouts.{layout_cells}
+use Rattle.vector_lines.specs.Places.{response_place}
 
 -- the lengths of the scan chains of the mode, and for each chain its cells and their bits, from wire in to wire out
 pub record SessionValue : Type 0 where
@@ -28,12 +31,6 @@ after response operation drive s =
     map (λ j. next_bits response (slice_index_or s.cells j []) (Some operation) (drive j) (slice_index_or s.bits j []))
     (range_with_len 0 (length s.cells))
 
--- where a cell's bit stands in a response: the cells of the scan chains by scan chain and place, then the output cells
-abbrev pub response_place : (lengths : List ℕ) → Cell → ℕ
-response_place lengths (In k) = 0
-response_place lengths (Flop c i) = sum (take c lengths) + i
-response_place lengths (Out k) = sum lengths + k
-
 -- the bit of a response that a cell takes
 abbrev pub response_bit : (lengths : List ℕ) → List Bool → Cell → Bool
 response_bit lengths response x = slice_index_or response (response_place lengths x) false
@@ -49,3 +46,7 @@ each_with f (x ∷ xs) (y ∷ ys) = f x y ∷ each_with f xs ys
 -- every bit one place on, with this bit in the first cell
 abbrev pub entered : Bool → List Bool → List Bool
 entered drive bits = take (length bits) (drive ∷ bits)
+
+-- there is a bit for each cell
+abbrev pub IsLong : Layout → List (List Bool) → Type 0
+IsLong l bits = map (λ (b : List Bool). length b) bits ≡ map (λ (c : List Cell). length c) (layout_cells l)

@@ -5,7 +5,8 @@ use Rattle.soc_model.specs.Chips.{SocValue}
 use Rattle.soc_model.specs.SoundChips.{IsSoundChip}
 use Rattle.plan_model.specs.Plans.{PlanValue, PlannedTest, planned}
 use Rattle.plan_model.specs.Rules.{IsGoodAlone}
-use Rattle.bit_machine.specs.Chips.{made_content, wires_of}
+use Rattle.vector_lines.specs.Made.{made_content}
+use Rattle.vector_lines.specs.Wires.{wires_of}
 use Rattle.bit_machine.specs.Machines.{IsMachine}
 use Rattle.bit_machine.specs.declared.machine.Machine.{Machine}
 

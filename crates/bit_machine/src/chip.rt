@@ -7,15 +7,13 @@ ghost use Rattle.plan_model.specs.Rules.{IsGoodAlone, live_ids};
 ghost use Rattle.plan_model.specs.Runs.{step};
 ghost use Rattle.plan_model.specs.Views.{plan_value};
 ghost use Rattle.live_tests.specs.Placed.{IsPlaced};
-ghost use Rattle.bit_machine.specs.Machines.{AreLanes};
-ghost use Rattle.bit_machine.specs.Paths.{made_keys};
-ghost use Rattle.bit_machine.specs.Placed.{IsPlacedLane};
-ghost use Rattle.bit_machine.specs.Chips.{at_first, wires_of, carried_bits, shown_bits, chip_content, chip_tests, IsCompared, captures_at, right_loads_at};
+ghost use Rattle.vector_lines.specs.Lanes.{AreLanes};
+ghost use Rattle.vector_lines.specs.Made.{made_keys};
+ghost use Rattle.vector_lines.specs.Placed.{IsPlacedLane};
+ghost use Rattle.bit_machine.specs.Chips.{at_first, carried_bits, shown_bits, chip_content, chip_tests, captures_at, right_loads_at};
+ghost use Rattle.vector_lines.specs.Wires.{wires_of, IsCompared};
 
-use crate::lane::Lane;
 use crate::machine::Machine;
-use crate::made::MadeContents;
-use crate::placing::{cycles_of, placed_lanes, plan_of, soc_of};
 use crate::stepped::resting_lanes;
 use live_tests::{LiveTests, Placed, PlacedPlan, first_wires};
 use outside::NoMemory;
@@ -23,6 +21,7 @@ use plan_model::Plan;
 use soc_model::Soc;
 use std::alloc::Global;
 use std::marker::Model;
+use vector_lines::{Lane, MadeContents, placed_lanes, plan_of, soc_of};
 
 /// What a chip under test has done.
 #[derive(Clone, Copy, PartialEq, Eq, Debug)]
@@ -67,6 +66,13 @@ impl<'a> Model for Chip<'a> {
 
     ghost invariant = { λ c. IsChip (soc_value c.soc.now) (plan_value c.plan.now) c.seed c.machine
         c.captures c.right_loads };
+}
+
+/// The cycles of a plan. The call tells that they are a machine's number.
+fn cycles_of(plan: &Plan) -> u64
+    ensures { result ≡ (plan_value plan.now).cycles }
+{
+    plan.cycles
 }
 
 /// Wires that belong to no test.

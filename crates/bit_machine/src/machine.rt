@@ -5,10 +5,11 @@ ghost use Rattle.plan_model.specs.Runs.{Content, carried, shown, step};
 ghost use Rattle.bit_machine.specs.Chips.{captures_at, right_loads_at};
 ghost use Rattle.bit_machine.specs.Lanes.{lane_on, IsBusy, IsSteppable};
 ghost use Rattle.bit_machine.specs.declared.stepped.SteppedLane.{SteppedLane};
-ghost use Rattle.bit_machine.specs.Machines.{lanes_state, FitLanes, AreStepped, AreOnWires, AreUsers, AreNow, AreNowBelow, AreSomeStepped, AreSomeUsers, IsStood, IsUnchanged, IsLaneUnchanged, IsMachine, IsSomeMachine, HasWire, HasNoUser, IsWireStep, IsWireCapture, IsMark, one_capture, one_right};
+ghost use Rattle.bit_machine.specs.Machines.{lanes_state, FitLanes, AreStepped, AreUsers, AreNow, AreNowBelow, AreSomeStepped, AreSomeUsers, IsStood, IsUnchanged, IsLaneUnchanged, IsMachine, IsSomeMachine, HasWire, HasNoUser, IsWireStep, IsWireCapture, IsMark, one_capture, one_right};
+ghost use Rattle.vector_lines.specs.Wires.{AreOnWires};
 
-use crate::lane::Lane;
 use crate::stepped::SteppedLane;
+use vector_lines::Lane;
 
 /// The live tests of a chip under test, in the order of the chip, and for each wire the place of the test that uses it.
 #[derive(Drop)]
@@ -93,6 +94,13 @@ fn next_change(lanes: &[SteppedLane], cycle: u64) -> u64
     change
 }
 
+/// Whether a test is active at a cycle, on the wires of its bus.
+fn is_on(lane: &Lane, cycle: u64) -> bool
+    ensures { result ≡ lane_on lane.now cycle }
+{
+    lane.tam && (lane.start <= cycle && cycle < lane.end)
+}
+
 /// Gives the wires of a test to it, if it is active at a cycle.
 fn give_active(users: &mut [Option<usize>], lane: &Lane, place: usize, cycle: u64)
     requires { lane.now.tam ≡ true → lane.now.first_wire + lane.now.width ≤ length users.old }
@@ -104,7 +112,7 @@ fn give_active(users: &mut [Option<usize>], lane: &Lane, place: usize, cycle: u6
         slice_get users.new w ≡ slice_get users.old w }
     ensures off { lane_on lane.now cycle ≡ false → users.new ≡ users.old }
 {
-    if lane.is_on(cycle) {
+    if is_on(lane, cycle) {
         give_wires(users, lane, place);
     }
 }

@@ -8,13 +8,14 @@ ghost use Rattle.plan_model.specs.Runs.{last_bit};
 ghost use Rattle.plan_model.specs.Views.{chain_value};
 ghost use Rattle.bit_machine.specs.Sessions.{at_rest, after, each_with, entered, response_bit};
 
-use crate::layout::Layout;
+use crate::capturing::{capture_response, resting_rings};
 use crate::ring::Ring;
 use outside::NoMemory;
 use plan_model::Wrapper;
 use soc_model::Module;
 use std::alloc::Global;
 use std::marker::Model;
+use vector_lines::Layout;
 
 /// One module in its wrapper, stepped cycle by cycle: the bits of its cells, chain by chain from wire in to wire out. It
 /// has a copy of all that it needs of the module and the wrapper.
@@ -25,8 +26,8 @@ pub struct Session {
 }
 
 impl Model for Session {
-    ghost use Rattle.bit_machine.specs.Sessions.{SessionValue};
-    ghost use Rattle.bit_machine.specs.Layouts.{layout_cells, IsLayout, IsLong};
+    ghost use Rattle.bit_machine.specs.Sessions.{SessionValue, IsLong};
+    ghost use Rattle.vector_lines.specs.Layouts.{layout_cells, IsLayout};
 
     ghost Value = { SessionValue };
 
@@ -62,7 +63,7 @@ impl Session {
             (map chain_value wrapper.now.chains.items)) }
     {
         let layout = Layout::new(alloc, module, wrapper)?;
-        let bits = layout.zeros(alloc)?;
+        let bits = resting_rings(alloc, &layout)?;
         Ok(Session { layout, bits })
     }
 
@@ -90,6 +91,6 @@ impl Session {
         ensures bits { (k : ℕ) (drive : ℕ → Bool) → self.new.bits
             ≡ after (λ k. response_bit self.old.lengths response.now) (Capture k) drive self.old }
     {
-        self.layout.capture(response, &mut self.bits);
+        capture_response(&self.layout, response, &mut self.bits);
     }
 }

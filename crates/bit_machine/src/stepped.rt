@@ -6,18 +6,18 @@ ghost use Rattle.plan_model.specs.Moments.{moment_behind};
 ghost use Rattle.plan_model.specs.Runs.{Content, wanted, next_bits, last_bit, chain_at};
 ghost use Rattle.bit_machine.specs.Chips.{holds};
 ghost use Rattle.bit_machine.specs.Lanes.{lane_bits, capture_answer, ArePages, AreAtRest, IsAtRest, IsBusy, IsLane, IsNow, IsSameTest, IsSteppable, resting_bits};
-ghost use Rattle.bit_machine.specs.Numbers.{IsLineWord};
-ghost use Rattle.bit_machine.specs.Paths.{is_answered};
-ghost use Rattle.bit_machine.specs.declared.path.Path.{Path};
+ghost use Rattle.bit_machine.specs.Packed.{IsLineWord};
+ghost use Rattle.vector_lines.specs.Paths.{is_answered};
+ghost use Rattle.vector_lines.specs.declared.path.Path.{Path};
 
 use crate::bits::is_set;
-use crate::lane::Lane;
-use crate::made::Line;
-use crate::path::Path;
 use crate::ring::Ring;
+use crate::stepping::{holds_stimulus, step_ring};
+use crate::words::word_from;
 use outside::{NoMemory, push};
 use plan_model::Moment;
 use std::alloc::Global;
+use vector_lines::{Lane, Line, Path};
 
 /// A part of a pattern's stimulus, for each chain of a test: the bits of the 64 cells from one on.
 #[derive(Clone, Copy, Drop)]
@@ -184,7 +184,7 @@ impl SteppedLane {
     {
         for chain in 0..self.lane.paths.len() {
             let path = &self.lane.paths[chain];
-            if !path.holds(&self.rings[chain], self.lane.key, pattern) {
+            if !holds_stimulus(path, &self.rings[chain], self.lane.key, pattern) {
                 return false;
             }
         }
@@ -224,7 +224,7 @@ impl SteppedLane {
         }
         let (base, moment) = (self.lane.key, self.moment);
         let path = &self.lane.paths[chain];
-        path.step(&mut self.rings[chain], base, moment, drive);
+        step_ring(path, &mut self.rings[chain], base, moment, drive);
     }
 }
 
@@ -238,6 +238,6 @@ fn fill_words(words: &mut [u64], paths: &[Path], line: &Line, first: usize)
         IsLineWord line.now p.loads first (slice_index words.new j) }
 {
     for place in 0..words.len() {
-        words[place] = paths[place].loads.word(line, first);
+        words[place] = word_from(&paths[place].loads, line, first);
     }
 }

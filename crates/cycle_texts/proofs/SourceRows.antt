@@ -8,9 +8,9 @@ use Rattle.soc_model.specs.Chips.{SocValue}
 use Rattle.plan_model.specs.Plans.{PlanValue, PlannedTest, planned}
 use Rattle.plan_model.specs.Rules.{IsGoodAlone, bare_limits}
 use Rattle.plan_model.specs.Runs.{Content, carried}
-use Rattle.bit_machine.specs.Chips.{wires_of}
-use Rattle.bit_machine.specs.Marks.{digit, Marks}
-use Rattle.bit_machine.specs.Vectors.{IsLineOf}
+use Rattle.vector_lines.specs.Wires.{wires_of}
+use Rattle.vector_lines.specs.Marks.{digit, Marks}
+use Rattle.vector_lines.specs.Vectors.{IsLineOf}
 use Rattle.tester_vectors.specs.Marks.{mark}
 use Rattle.tester_vectors.specs.VectorText.{driven_text, compared_text, cycle_line}
 use Rattle.tester_vectors.proofs.CycleLines.{block_is, flat_more}

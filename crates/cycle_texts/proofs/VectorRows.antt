@@ -3,8 +3,8 @@ use Rattle.std.proofs.Common.{◌≡◌, refl}
 use Rattle.soc_model.specs.Chips.{SocValue}
 use Rattle.plan_model.specs.Plans.{PlanValue}
 use Rattle.plan_model.specs.Runs.{Content}
-use Rattle.bit_machine.specs.Chips.{wires_of}
-use Rattle.bit_machine.specs.Marks.{Marks}
+use Rattle.vector_lines.specs.Wires.{wires_of}
+use Rattle.vector_lines.specs.Marks.{Marks}
 use Rattle.tester_vectors.specs.VectorText.{cycle_line, marked_text}
 use Rattle.cycle_texts.specs.ProgramText.{row_at, vectors_of_rows}
 

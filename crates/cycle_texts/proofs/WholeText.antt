@@ -5,8 +5,8 @@ use Rattle.outside.proofs.PieceLemmas.{Appended-then}
 use Rattle.soc_model.specs.Chips.{SocValue}
 use Rattle.plan_model.specs.Plans.{PlanValue}
 use Rattle.plan_model.specs.Runs.{Content}
-use Rattle.bit_machine.specs.Marks.{Keys, Marks}
-use Rattle.bit_machine.specs.Placed.{StandFor}
+use Rattle.vector_lines.specs.Marks.{Keys, Marks}
+use Rattle.vector_lines.specs.Placed.{StandFor}
 use Rattle.tester_vectors.proofs.Blocks.{front_after, front_longer}
 use Rattle.cycle_texts.specs.ProgramText.{PartOf, parts_of, program_text, row_at}
 

@@ -4,8 +4,8 @@ use Rattle.std.specs.List.{flat_map, range_with_len}
 use Rattle.soc_model.specs.Chips.{SocValue}
 use Rattle.plan_model.specs.Plans.{PlanValue, planned}
 use Rattle.plan_model.specs.Runs.{Content}
-use Rattle.bit_machine.specs.Chips.{wires_of}
-use Rattle.bit_machine.specs.Marks.{Marks}
+use Rattle.vector_lines.specs.Wires.{wires_of}
+use Rattle.vector_lines.specs.Marks.{Marks}
 use Rattle.tester_vectors.specs.VectorText.{driven_text, compared_text, head_line}
 use Rattle.cycle_forms.specs.Rows.{CycleRow}
 use Rattle.controls.specs.Controls.{control_row}

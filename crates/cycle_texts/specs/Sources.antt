@@ -4,9 +4,9 @@ use Rattle.soc_model.specs.Chips.{SocValue, soc_value}
 use Rattle.plan_model.specs.Plans.{PlanValue}
 use Rattle.plan_model.specs.Rules.{IsGoodAlone}
 use Rattle.plan_model.specs.Views.{plan_value}
-use Rattle.bit_machine.specs.Chips.{wires_of}
-use Rattle.bit_machine.specs.Marks.{Keys}
-use Rattle.bit_machine.specs.Vectors.{AreVectors}
+use Rattle.vector_lines.specs.Wires.{wires_of}
+use Rattle.vector_lines.specs.Marks.{Keys}
+use Rattle.vector_lines.specs.Vectors.{AreVectors}
 use Rattle.controls.specs.Controls.{controls}
 use Rattle.control_rows.specs.Tests.{AreControlRows}
 use Rattle.cycle_texts.specs.declared.sources.RowSource.{RowSource}

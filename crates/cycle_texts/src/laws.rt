@@ -3,8 +3,8 @@ ghost use Rattle.std.specs.Prelude.{◌≡◌};
 ghost use Rattle.soc_model.specs.Chips.{SocValue};
 ghost use Rattle.plan_model.specs.Plans.{PlanValue};
 ghost use Rattle.plan_model.specs.Runs.{Content};
-ghost use Rattle.bit_machine.specs.Chips.{wires_of};
-ghost use Rattle.bit_machine.specs.Marks.{Marks};
+ghost use Rattle.vector_lines.specs.Wires.{wires_of};
+ghost use Rattle.vector_lines.specs.Marks.{Marks};
 ghost use Rattle.tester_vectors.specs.VectorText.{marked_text};
 ghost use Rattle.cycle_texts.specs.ProgramText.{row_at, vectors_of_rows};
 

@@ -12,9 +12,9 @@ ghost use Rattle.outside.specs.Puts.{Puts};
 ghost use Rattle.soc_model.specs.Chips.{soc_value};
 ghost use Rattle.plan_model.specs.Runs.{Content};
 ghost use Rattle.plan_model.specs.Views.{plan_value};
-ghost use Rattle.bit_machine.specs.Chips.{wires_of};
-ghost use Rattle.bit_machine.specs.Marks.{Marks, Keys};
-ghost use Rattle.bit_machine.specs.Placed.{StandFor};
+ghost use Rattle.vector_lines.specs.Wires.{wires_of};
+ghost use Rattle.vector_lines.specs.Marks.{Marks, Keys};
+ghost use Rattle.vector_lines.specs.Placed.{StandFor};
 ghost use Rattle.controls.specs.Controls.{controls};
 ghost use Rattle.cycle_forms.specs.declared.TheConstants.{CYCLE_MOST};
 ghost use Rattle.cycle_texts.specs.ProgramText.{program_text};
@@ -26,7 +26,6 @@ mod parts;
 mod sources;
 mod writing;
 
-use bit_machine::Contents;
 use cycle_forms::CycleForm;
 pub use laws::rows_show_vectors;
 use live_tests::PlacedPlan;
@@ -34,6 +33,7 @@ use outside::Sink;
 use sources::{BlockRooms, RowSource};
 use std::alloc::Global;
 use tester_vectors::LinesOutcome;
+use vector_lines::Contents;
 use writing::write_text;
 
 /// Writes the text from a source in room that is at hand.

@@ -3,21 +3,21 @@ ghost use Rattle.std.specs.Prelude.{◌≡◌, ◌+◌, ◌*◌, ◌^◌, ◌<�
 ghost use Rattle.soc_model.specs.Chips.{soc_value};
 ghost use Rattle.plan_model.specs.Runs.{Content};
 ghost use Rattle.plan_model.specs.Views.{plan_value};
-ghost use Rattle.bit_machine.specs.Chips.{wires_of};
-ghost use Rattle.bit_machine.specs.Marks.{Marks};
-ghost use Rattle.bit_machine.specs.Placed.{StandFor};
+ghost use Rattle.vector_lines.specs.Wires.{wires_of};
+ghost use Rattle.vector_lines.specs.Marks.{Marks};
+ghost use Rattle.vector_lines.specs.Placed.{StandFor};
 ghost use Rattle.cycle_texts.specs.ProgramText.{row_at};
 ghost use Rattle.cycle_texts.specs.RowBlocks.{AreRows};
 ghost use Rattle.cycle_texts.specs.Sources.{HaveRoom, IsSource, IsSourceOf};
 
 use crate::blocks::line_length;
-use bit_machine::{Contents, Vectors};
 use control_rows::ControlRows;
 use live_tests::{PlacedPlan, all_wires};
 use outside::NoMemory;
 use plan_model::Plan;
 use soc_model::Soc;
 use std::alloc::Global;
+use vector_lines::{Contents, Vectors};
 
 /// How many bytes of rows are made at a time, some.
 const BLOCK: usize = 65_536;

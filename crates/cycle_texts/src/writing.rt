@@ -5,8 +5,8 @@ ghost use Rattle.outside.specs.Puts.{Puts};
 ghost use Rattle.soc_model.specs.Chips.{soc_value};
 ghost use Rattle.plan_model.specs.Runs.{Content};
 ghost use Rattle.plan_model.specs.Views.{plan_value};
-ghost use Rattle.bit_machine.specs.Marks.{Marks};
-ghost use Rattle.bit_machine.specs.Placed.{StandFor};
+ghost use Rattle.vector_lines.specs.Marks.{Marks};
+ghost use Rattle.vector_lines.specs.Placed.{StandFor};
 ghost use Rattle.cycle_forms.specs.declared.TheConstants.{CYCLE_MOST};
 ghost use Rattle.cycle_texts.specs.ProgramText.{parts_of, program_text, row_at};
 ghost use Rattle.cycle_texts.specs.Sources.{HaveRoom, IsSource};
@@ -14,9 +14,9 @@ ghost use Rattle.cycle_texts.specs.Sources.{HaveRoom, IsSource};
 use crate::blocks::RowBlock;
 use crate::parts::put_parts;
 use crate::sources::RowSource;
-use bit_machine::Contents;
 use cycle_forms::CycleForm;
 use outside::{Sink, WriteFault, put_all};
+use vector_lines::Contents;
 
 /// Writes the parts of all cycles. The rows are made block by block, each with the row of the cycle before it.
 fn write_cycles<F: CycleForm, C: Contents, K: Sink>(

@@ -5,9 +5,9 @@ use Rattle.std.proofs.Math.Nat.{mod-add-mod}
 use Rattle.std.proofs.lemmas.List.{append-nil, take_more_set, map-append}
 use Rattle.std.proofs.lemmas.List.FromFn.{map-range_with_len_more}
 use Rattle.std.proofs.lemmas.Grind.{flat_map-append}
-use Rattle.bit_machine.specs.Numbers.{line_value, line_bit}
-use Rattle.bit_machine.specs.declared.made.Line.{Line}
-use Rattle.bit_machine.specs.Paths.{made_from}
+use Rattle.vector_lines.specs.Numbers.{line_value, line_bit}
+use Rattle.vector_lines.specs.declared.made.Line.{Line}
+use Rattle.vector_lines.specs.Made.{made_from}
 use Rattle.made_data.specs.DataText.{bit_byte, bits_word}
 use Rattle.made_data.specs.Entries.{data_bit}
 use Rattle.made_data.specs.Parts.{made_byte, made_bits}

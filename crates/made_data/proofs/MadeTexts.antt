@@ -12,13 +12,12 @@ use Rattle.soc_model.specs.Chips.{ModuleValue, SocValue, is_live}
 use Rattle.soc_model.specs.Modes.{is_tam, scan_lengths}
 use Rattle.soc_model.specs.SoundChips.{IsSoundChip, IsSoundModule, AllDiffer}
 use Rattle.plan_model.specs.Cells.{Cell, stimulus_cells, response_cells}
-use Rattle.bit_machine.specs.Chips.{made_content, made_stimulus, made_response, stimulus_place}
-use Rattle.bit_machine.specs.Sessions.{response_place}
-use Rattle.bit_machine.specs.Paths.{made_from}
-use Rattle.bit_machine.proofs.MadeBits.{made_from_is}
-use Rattle.bit_machine.proofs.PlacedLanes.{of_the_live}
-use Rattle.bit_machine.proofs.Responses.{response_number}
-use Rattle.bit_machine.proofs.Stimuli.{stimulus_number}
+use Rattle.vector_lines.specs.Made.{made_content, made_stimulus, made_response, made_from}
+use Rattle.vector_lines.specs.Places.{stimulus_place, response_place}
+use Rattle.vector_lines.proofs.MadeBits.{made_from_is}
+use Rattle.vector_lines.proofs.PlacedLanes.{of_the_live}
+use Rattle.vector_lines.proofs.Responses.{response_number}
+use Rattle.vector_lines.proofs.Stimuli.{stimulus_number}
 use Rattle.test_data.specs.declared.DataBit.{DataBit}
 use Rattle.test_data.specs.declared.misfits.Wanted.{Wanted}
 use Rattle.test_data.specs.DataWords.{PatternValue}

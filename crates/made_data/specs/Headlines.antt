@@ -2,7 +2,7 @@
 use Rattle.std.specs.Prelude.{◌≡◌, ℕ, List, Option, Some}
 use Rattle.outside.specs.Held.{Files, Appended}
 use Rattle.soc_model.specs.Chips.{SocValue}
-use Rattle.bit_machine.specs.Chips.{made_content}
+use Rattle.vector_lines.specs.Made.{made_content}
 use Rattle.commands.specs.declared.Status.{Status}
 use Rattle.commands.specs.declared.Status.TheVariants.{Done}
 use Rattle.commands.specs.Commands.{CommandValue, Data}

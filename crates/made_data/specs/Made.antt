@@ -1,7 +1,7 @@
 -- The test data of the made contents of a seed, its text, and the line that refuses one that is too long.
 use Rattle.std.specs.Prelude.{ℕ, List, ◌++◌, Option, None, Some, codes, decimal, length, nat_lt, if◌then◌else◌}
 use Rattle.soc_model.specs.Chips.{SocValue}
-use Rattle.bit_machine.specs.Chips.{made_content}
+use Rattle.vector_lines.specs.Made.{made_content}
 use Rattle.test_data.specs.DataWords.{EntryValue}
 use Rattle.commands.specs.declared.TheConstants.{DATA_FILE_MOST}
 use Rattle.made_data.specs.DataText.{data_text}

@@ -4,9 +4,9 @@ use Rattle.std.specs.List.{flat_map, range_with_len}
 use Rattle.soc_model.specs.declared.Test.{Test}
 use Rattle.soc_model.specs.Chips.{ModuleValue}
 use Rattle.soc_model.specs.Modes.{is_tam}
-use Rattle.bit_machine.specs.Paths.{made_from}
-use Rattle.bit_machine.specs.Numbers.{line_bit}
-use Rattle.bit_machine.specs.declared.made.Line.{Line}
+use Rattle.vector_lines.specs.Made.{made_from}
+use Rattle.vector_lines.specs.Numbers.{line_bit}
+use Rattle.vector_lines.specs.declared.made.Line.{Line}
 use Rattle.test_data.specs.declared.misfits.Wanted.{Wanted}
 use Rattle.test_data.specs.declared.DataBit.{DataBit}
 use Rattle.test_data.specs.DataWords.{PatternValue}

@@ -1,13 +1,13 @@
 //! The made bits of a pattern, as the bytes of a bit word.
 ghost use Rattle.std.specs.Prelude.{◌≡◌, ◌+◌, ◌++◌, ◌<◌, ◌≤◌, ℕ, length, map, take};
 ghost use Rattle.std.specs.List.{range_with_len};
-ghost use Rattle.bit_machine.specs.Chips.{has_odd_square};
-ghost use Rattle.bit_machine.specs.Numbers.{line_value};
+ghost use Rattle.vector_lines.specs.Made.{has_odd_square};
+ghost use Rattle.vector_lines.specs.Numbers.{line_value};
 ghost use Rattle.made_data.specs.DataText.{bit_byte};
 ghost use Rattle.made_data.specs.Entries.{data_bit};
 ghost use Rattle.made_data.specs.Parts.{made_byte};
 
-use bit_machine::{Line, bit_of};
+use vector_lines::{Line, bit_of};
 
 /// The byte of the bit that is made from a value.
 fn byte_of(value: u64) -> u8

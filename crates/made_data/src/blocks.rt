@@ -3,7 +3,7 @@ ghost use Rattle.std.specs.Prelude.{◌≡◌, ◌+◌, ◌^◌, ◌++◌, ◌�
 ghost use Rattle.std.specs.List.{All, range_with_len};
 ghost use Rattle.outside.specs.Held.{Appended};
 ghost use Rattle.outside.specs.Puts.{Puts};
-ghost use Rattle.bit_machine.specs.Numbers.{line_value};
+ghost use Rattle.vector_lines.specs.Numbers.{line_value};
 ghost use Rattle.made_data.specs.DataText.{bits_word, pattern_line};
 ghost use Rattle.made_data.specs.Parts.{made_byte, made_bits, made_pattern, made_lines, part_value, part_text, parts_text, IsSmallPart};
 ghost use Rattle.made_data.specs.Sending.{IsBlock, HasRoom, waiting, HasSent, HasFailed};
@@ -11,10 +11,10 @@ ghost use Rattle.made_data.specs.Sending.{IsBlock, HasRoom, waiting, HasSent, Ha
 use crate::BLOCK;
 use crate::bits::put_bits;
 use crate::parts::Part;
-use bit_machine::Line;
 use outside::{NoMemory, Sink, WriteFault, put_all};
 use std::alloc::Global;
 use test_data::Wanted;
+use vector_lines::Line;
 
 /// A block: its first bytes wait to be written.
 #[derive(Drop)]

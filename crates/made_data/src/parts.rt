@@ -6,11 +6,11 @@ ghost use Rattle.soc_model.specs.Chips.{module_value, soc_value};
 ghost use Rattle.made_data.specs.DataText.{test_line as line_of};
 ghost use Rattle.made_data.specs.Parts.{IsSmallPart, part_length as length_of, part_of as the_part, part_value, parts_from, parts_in};
 
-use bit_machine::{Contents, MadeContents};
 use outside::{NoMemory, extend, push, push_number};
 use soc_model::{Module, Soc, Test, TestId, over_wires};
 use std::alloc::Global;
 use test_data::{Wanted, wanted_for};
+use vector_lines::{Contents, MadeContents};
 
 /// What is written of a test.
 #[derive(Drop)]

@@ -4,7 +4,7 @@ use Rattle.std.specs.FinMap.{get}
 use Rattle.outside.specs.Held.{Files, Appended}
 use Rattle.plan_model.specs.Plans.{planned}
 use Rattle.plan_text.specs.Answers.{SaysPlan}
-use Rattle.bit_machine.specs.Chips.{made_content}
+use Rattle.vector_lines.specs.Made.{made_content}
 use Rattle.commands.specs.declared.FileKind.TheVariants.{Plan}
 use Rattle.commands.specs.declared.Status.{Status}
 use Rattle.commands.specs.declared.Status.TheVariants.{Done}

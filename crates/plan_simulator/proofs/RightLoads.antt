@@ -17,8 +17,8 @@ use Rattle.plan_model.proofs.LoadsAndReads.{IsTamTest, begun_at, loaded_bit}
 use Rattle.plan_model.proofs.SumsOverCycles.{sum_below-same}
 use Rattle.plan_model.proofs.TestsInGoodPlans.{apart, is_tam_test}
 use Rattle.bit_machine.specs.Chips.{HasAllBits, is_capture, loads_right, captures_at, right_loads_at}
-use Rattle.bit_machine.specs.Machines.{AreOnWires}
-use Rattle.bit_machine.proofs.GoodWires.{good_wires}
+use Rattle.vector_lines.specs.Wires.{AreOnWires}
+use Rattle.vector_lines.proofs.GoodWires.{good_wires}
 use Rattle.bit_machine.proofs.HeldStimuli.{stimulus_is_held}
 use Rattle.plan_simulator.specs.Runs.{right_loads_in, wired_patterns}
 use Rattle.plan_simulator.proofs.CaptureCounts.{captures_are_patterns}

@@ -7,7 +7,9 @@ use Rattle.plan_model.specs.Plans.{PlanValue, PlannedTest, planned}
 use Rattle.plan_model.specs.Rules.{IsGoodAlone, bare_limits}
 use Rattle.plan_model.specs.Runs.{Content, State, step, carried, run_with, state_at}
 use Rattle.plan_model.proofs.TestsInGoodPlans.{apart}
-use Rattle.bit_machine.specs.Chips.{ChipValue, at_first, carried_bits, chip_content, chip_tests, made_content, captures_at, right_loads_at, wires_of, each_wire}
+use Rattle.bit_machine.specs.Chips.{ChipValue, at_first, carried_bits, chip_content, chip_tests, captures_at, right_loads_at, each_wire}
+use Rattle.vector_lines.specs.Made.{made_content}
+use Rattle.vector_lines.specs.Wires.{wires_of}
 use Rattle.tester_vectors.proofs.SameDrive.{chains_within, step_same}
 use Rattle.plan_simulator.specs.Runs.{captures_in, right_loads_in}
 use Rattle.plan_simulator.specs.Steps.{IsAfter}

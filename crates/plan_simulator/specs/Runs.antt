@@ -5,7 +5,8 @@ use Rattle.soc_model.specs.Chips.{SocValue, LiveTest, live_tests}
 use Rattle.plan_model.specs.Bounds.{sum_below}
 use Rattle.plan_model.specs.Plans.{PlanValue, PlannedTest, planned}
 use Rattle.plan_model.specs.Runs.{Content, state_at}
-use Rattle.bit_machine.specs.Chips.{made_content, captures_at, right_loads_at}
+use Rattle.vector_lines.specs.Made.{made_content}
+use Rattle.bit_machine.specs.Chips.{captures_at, right_loads_at}
 
 -- the captures of all tests in the first `cycles` cycles
 abbrev pub captures_in : List PlannedTest → (cycles : ℕ) → ℕ

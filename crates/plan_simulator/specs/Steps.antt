@@ -3,7 +3,8 @@ use Rattle.std.specs.Prelude.{◌≡◌, ℕ}
 use Rattle.soc_model.specs.Chips.{SocValue}
 use Rattle.plan_model.specs.Plans.{PlanValue, planned}
 use Rattle.plan_model.specs.Runs.{state_at}
-use Rattle.bit_machine.specs.Chips.{ChipValue, made_content}
+use Rattle.bit_machine.specs.Chips.{ChipValue}
+use Rattle.vector_lines.specs.Made.{made_content}
 use Rattle.plan_simulator.specs.Runs.{captures_in, right_loads_in}
 
 -- The chip after `cycle` cycles of the plan's own run: its bits are those of the run, and it has counted the captures so far.

@@ -3,7 +3,7 @@ ghost use Rattle.std.specs.Prelude.{◌≡◌, ℕ, ◌+◌, ◌<◌, ◌≤◌,
 ghost use Rattle.soc_model.specs.Chips.{SocValue};
 ghost use Rattle.plan_model.specs.Plans.{PlanValue};
 ghost use Rattle.plan_model.specs.Rules.{IsGoodAlone};
-ghost use Rattle.bit_machine.specs.Chips.{wires_of};
+ghost use Rattle.vector_lines.specs.Wires.{wires_of};
 ghost use Rattle.plan_simulator.specs.Steps.{IsAfter};
 
 use bit_machine::Chip;

@@ -22,10 +22,9 @@ use Rattle.test_data.specs.DataWords.{PatternValue, EntryValue}
 use Rattle.test_data.specs.Suiting.{name_in}
 use Rattle.test_data.specs.Agreement.{IsTamTest, HasBits, Suits, driven_bit, IsPatternOf, Agrees}
 use Rattle.test_data.proofs.SuitedData.{id_itself, same_id, places_of}
-use Rattle.bit_machine.specs.Chips.{stimulus_place}
-use Rattle.bit_machine.specs.Sessions.{response_place}
-use Rattle.bit_machine.proofs.Responses.{response_number}
-use Rattle.bit_machine.proofs.Stimuli.{stimulus_number}
+use Rattle.vector_lines.specs.Places.{stimulus_place, response_place}
+use Rattle.vector_lines.proofs.Responses.{response_number}
+use Rattle.vector_lines.proofs.Stimuli.{stimulus_number}
 use Rattle.retargeter.specs.Contents.{compared_byte, numbered, load_of, unload_of, load_bit, unload_bit, entry_place, of_test, of_module, of_places, of_named, load_at, unload_at, data_content, data_marks}
 use Rattle.common_lemmas.proofs.Lists.{contains_at, in_filter}
 

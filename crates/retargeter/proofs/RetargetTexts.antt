@@ -11,7 +11,7 @@ use Rattle.plan_model.specs.Runs.{Content, carried}
 use Rattle.test_data.specs.DataWords.{EntryValue}
 use Rattle.test_data.specs.Suiting.{name_in}
 use Rattle.test_data.specs.Agreement.{Suits, Agrees}
-use Rattle.bit_machine.specs.Chips.{wires_of, IsCompared}
+use Rattle.vector_lines.specs.Wires.{wires_of, IsCompared}
 use Rattle.tester_vectors.specs.Marks.{digit, mark, Marks, MarksStand, response_digits}
 use Rattle.tester_vectors.specs.VectorText.{head_line, cycle_line, marked_text, vector_text}
 use Rattle.tester_vectors.proofs.DrivenByText.{runs_as_shown}

@@ -25,8 +25,8 @@ use Rattle.test_data.specs.declared.DataBit.TheVariants.{Any}
 use Rattle.test_data.specs.DataWords.{PatternValue, EntryValue}
 use Rattle.test_data.specs.Suiting.{name_in}
 use Rattle.test_data.specs.Agreement.{Suits, IsPatternOf, Agrees}
-use Rattle.bit_machine.specs.Sessions.{response_place}
-use Rattle.bit_machine.proofs.Responses.{response_number}
+use Rattle.vector_lines.specs.Places.{response_place}
+use Rattle.vector_lines.proofs.Responses.{response_number}
 use Rattle.retargeter.specs.Contents.{compared_byte, unload_bit, entry_place, data_content, data_marks}
 use Rattle.retargeter.proofs.SameLoads.{SameLoads, carried_same, loaded_cell, tam_tests}
 use Rattle.retargeter.proofs.DataBits.{IsOfChip, of_chip, cell_of_mode, response_bit, HasPattern, pattern_of, unload_is, marked_is, same_load}

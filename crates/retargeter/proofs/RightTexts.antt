@@ -22,7 +22,7 @@ use Rattle.test_data.specs.declared.DataBit.TheVariants.{Zero, One, Any}
 use Rattle.test_data.specs.DataWords.{PatternValue, EntryValue}
 use Rattle.test_data.specs.Suiting.{name_in}
 use Rattle.test_data.specs.Agreement.{IsTamTest, Suits, MayShow, IsPatternOf, Agrees}
-use Rattle.bit_machine.specs.Chips.{wires_of, IsCompared}
+use Rattle.vector_lines.specs.Wires.{wires_of, IsCompared}
 use Rattle.tester_vectors.specs.Marks.{digit, Marks, response_digits}
 use Rattle.tester_vectors.specs.DrivenRuns.{IsDriven, line_begin, RunsAsShown}
 use Rattle.tester_vectors.specs.VectorText.{vector_text}

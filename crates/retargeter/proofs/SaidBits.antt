@@ -12,8 +12,8 @@ use Rattle.test_data.specs.declared.DataBit.{DataBit}
 use Rattle.test_data.specs.declared.DataBit.TheVariants.{Zero, One, Any}
 use Rattle.test_data.specs.DataWords.{PatternValue, EntryValue}
 use Rattle.test_data.specs.Agreement.{IsTamTest, driven_bit}
-use Rattle.bit_machine.specs.Marks.{digit}
-use Rattle.bit_machine.specs.Placed.{StandFor}
+use Rattle.vector_lines.specs.Marks.{digit}
+use Rattle.vector_lines.specs.Placed.{StandFor}
 use Rattle.retargeter.specs.Contents.{byte_for, compared_byte, word_byte, numbered, load_of, unload_of, load_bit, unload_bit, entry_place, data_keys, data_drive, data_mark, data_content, data_marks}
 use Rattle.retargeter.proofs.DataBits.{driven_is, marked_is}
 

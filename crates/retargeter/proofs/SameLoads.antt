@@ -16,7 +16,7 @@ use Rattle.plan_model.proofs.OperationBlocks.{IsCaptured, capture_found}
 use Rattle.plan_model.proofs.PlannedTests.{Origin, origin}
 use Rattle.plan_model.proofs.TestsInGoodPlans.{uses_is, is_tam_test, planned_tam}
 use Rattle.plan_model.proofs.TurnBounds.{planned_chains}
-use Rattle.bit_machine.proofs.Numbering.{ins_loaded, flops_loaded, outs_unloaded}
+use Rattle.vector_lines.proofs.Numbering.{ins_loaded, flops_loaded, outs_unloaded}
 
 -- ---- the operations ahead
 

@@ -12,9 +12,8 @@ use Rattle.test_data.specs.declared.DataBit.{DataBit}
 use Rattle.test_data.specs.declared.DataBit.TheVariants.{Zero, One, Any}
 use Rattle.test_data.specs.DataWords.{PatternValue, EntryValue}
 use Rattle.test_data.specs.Agreement.{driven_bit}
-use Rattle.bit_machine.specs.Chips.{stimulus_place}
-use Rattle.bit_machine.specs.Marks.{Keys, Marks}
-use Rattle.bit_machine.specs.Sessions.{response_place}
+use Rattle.vector_lines.specs.Places.{stimulus_place, response_place}
+use Rattle.vector_lines.specs.Marks.{Keys, Marks}
 
 -- ---- a bit of the data
 

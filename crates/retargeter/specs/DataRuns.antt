@@ -13,7 +13,7 @@ use Rattle.test_data.specs.declared.DataBit.TheVariants.{Zero, One}
 use Rattle.test_data.specs.DataWords.{PatternValue, EntryValue}
 use Rattle.test_data.specs.Suiting.{name_in}
 use Rattle.test_data.specs.Agreement.{IsPatternOf, Agrees}
-use Rattle.bit_machine.specs.Chips.{wires_of}
+use Rattle.vector_lines.specs.Wires.{wires_of}
 use Rattle.tester_vectors.specs.Marks.{digit}
 use Rattle.tester_vectors.specs.DrivenRuns.{IsDriven, line_begin, with_initial}
 

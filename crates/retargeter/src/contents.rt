@@ -5,9 +5,9 @@ ghost use Rattle.test_data.specs.DataPlaces.{bits_value};
 ghost use Rattle.test_data.specs.DataWords.{bit_of as the_bit};
 ghost use Rattle.retargeter.specs.Contents.{byte_for as the_byte, entry_place, numbered, word_byte};
 
-use bit_machine::{Contents, PatternBits};
 use soc_model::TestId;
 use test_data::{DataBit, PatternWords, TestData, bit_of};
+use vector_lines::{Contents, PatternBits};
 
 /// What is driven for a bit that may be any.
 const DRIVEN: u8 = b'0';

@@ -1,6 +1,6 @@
 //! The end of a call: a verdict that is written at once, or the text of a plan with test data that is written as it is made.
 ghost use Rattle.std.specs.Prelude.{◌≤◌, None};
-ghost use Rattle.bit_machine.specs.Chips.{wires_of};
+ghost use Rattle.vector_lines.specs.Wires.{wires_of};
 ghost use Rattle.commands.specs.Ends.{WritesUnless, MakesPuts};
 ghost use Rattle.retargeter.specs.DataTexts.{retarget_text};
 ghost use Rattle.commands.specs.Endings.{WritesEnding, PutsEnding};

@@ -4,7 +4,7 @@ ghost use Rattle.soc_model.specs.Chips.{soc_value};
 ghost use Rattle.soc_model.specs.SoundChips.{IsSoundChip};
 ghost use Rattle.plan_model.specs.Rules.{IsGoodAlone};
 ghost use Rattle.plan_model.specs.Views.{plan_value};
-ghost use Rattle.bit_machine.specs.Chips.{wires_of};
+ghost use Rattle.vector_lines.specs.Wires.{wires_of};
 ghost use Rattle.row_calls.specs.Widths.{IsWide};
 
 use bit_machine::Chip;

@@ -7,7 +7,7 @@ use Rattle.plan_model.specs.Plans.{LimitsValue, PlanValue}
 use Rattle.plan_model.specs.Rules.{IsGood}
 use Rattle.plan_text.specs.PlanLines.{plan_text}
 use Rattle.chart.specs.ChartText.{chart_text}
-use Rattle.bit_machine.specs.Chips.{made_content}
+use Rattle.vector_lines.specs.Made.{made_content}
 use Rattle.tester_vectors.specs.VectorText.{vector_text, too_many}
 use Rattle.sample_maker.specs.Samples.{made_chip}
 use Rattle.fail_locate.specs.Laws.{SpotsAreReads}

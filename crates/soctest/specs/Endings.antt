@@ -1,6 +1,6 @@
 -- What a call ends with.
 use Rattle.std.proofs.Common.{inl, inr}
-use Rattle.bit_machine.specs.Chips.{made_content}
+use Rattle.vector_lines.specs.Made.{made_content}
 use Rattle.tester_vectors.specs.VectorText.{vector_text, too_many}
 use Rattle.commands.specs.Endings.{EndingValue}
 use Rattle.commands.specs.Texts.{run_refusal}

@@ -1,6 +1,7 @@
 //! The end of a call: a verdict that is written at once, or vectors that are written as they are made.
 ghost use Rattle.std.specs.Prelude.{◌≤◌};
-ghost use Rattle.bit_machine.specs.Chips.{wires_of, made_content};
+ghost use Rattle.vector_lines.specs.Wires.{wires_of};
+ghost use Rattle.vector_lines.specs.Made.{made_content};
 ghost use Rattle.tester_vectors.specs.VectorText.{vector_text, too_many};
 ghost use Rattle.commands.specs.Ends.{WritesUnless, MakesPuts};
 ghost use Rattle.commands.specs.Texts.{run_refusal};

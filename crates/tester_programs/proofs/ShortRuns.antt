@@ -3,7 +3,7 @@ use Rattle.std.proofs.Common.{◌≡◌, ◌⊎◌, inl, inr, ℕ, ◌*◌, ◌�
 use Rattle.std.proofs.Math.Nat.{mul-le-mul_left}
 use Rattle.std.proofs.lemmas.Bool.{cases_Bool, ltb-false}
 use Rattle.plan_model.specs.Plans.{PlanValue}
-use Rattle.bit_machine.specs.Chips.{wires_of}
+use Rattle.vector_lines.specs.Wires.{wires_of}
 use Rattle.cycle_forms.specs.declared.TheConstants.{CYCLE_MOST}
 use Rattle.tester_vectors.specs.VectorText.{wire_cycles, more_than}
 use Rattle.retargeter.specs.declared.TheConstants.{LONG_RUN_MOST}

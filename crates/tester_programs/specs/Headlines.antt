@@ -7,7 +7,7 @@ use Rattle.plan_model.specs.Plans.{LimitsValue, PlanValue}
 use Rattle.plan_model.specs.Runs.{Content}
 use Rattle.plan_model.specs.Right.{IsRight}
 use Rattle.plan_model.specs.Rules.{IsBound}
-use Rattle.bit_machine.specs.Chips.{wires_of}
+use Rattle.vector_lines.specs.Wires.{wires_of}
 use Rattle.test_data.specs.DataWords.{EntryValue, SaysData}
 use Rattle.test_data.specs.Agreement.{Agrees, Suits}
 use Rattle.commands.specs.declared.FileKind.TheVariants.{Data}

@@ -2,7 +2,7 @@
 use Rattle.std.specs.Prelude.{ℕ, List}
 use Rattle.soc_model.specs.Chips.{SocValue}
 use Rattle.plan_model.specs.Plans.{PlanValue}
-use Rattle.bit_machine.specs.Chips.{wires_of}
+use Rattle.vector_lines.specs.Wires.{wires_of}
 use Rattle.test_data.specs.DataWords.{EntryValue}
 use Rattle.cycle_forms.specs.Rows.{CycleRow}
 use Rattle.controls.specs.Controls.{controls}

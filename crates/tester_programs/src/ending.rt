@@ -1,6 +1,6 @@
 //! The end of a call: a verdict that is written at once, or a program for a tester that is written as it is made.
 ghost use Rattle.std.specs.Prelude.{◌≡◌, ◌≤◌, None, length};
-ghost use Rattle.bit_machine.specs.Chips.{wires_of};
+ghost use Rattle.vector_lines.specs.Wires.{wires_of};
 ghost use Rattle.commands.specs.Ends.{WritesUnless, MakesPuts};
 ghost use Rattle.controls.specs.Controls.{controls};
 ghost use Rattle.cycle_forms.specs.declared.TheConstants.{CYCLE_MOST};

@@ -9,8 +9,8 @@ use Rattle.outside.proofs.PieceLemmas.{Appended-then}
 use Rattle.soc_model.specs.Chips.{SocValue}
 use Rattle.plan_model.specs.Plans.{PlanValue}
 use Rattle.plan_model.specs.Runs.{Content}
-use Rattle.bit_machine.specs.Marks.{Keys, Marks}
-use Rattle.bit_machine.specs.Placed.{StandFor}
+use Rattle.vector_lines.specs.Marks.{Keys, Marks}
+use Rattle.vector_lines.specs.Placed.{StandFor}
 use Rattle.tester_vectors.specs.Lines.{lines_of}
 use Rattle.tester_vectors.specs.VectorText.{marked_text}
 

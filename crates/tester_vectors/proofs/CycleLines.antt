@@ -9,8 +9,8 @@ use Rattle.std.proofs.lemmas.Bool.{cases_eq, cases_lt}
 use Rattle.soc_model.specs.Chips.{SocValue}
 use Rattle.plan_model.specs.Plans.{PlanValue, planned}
 use Rattle.plan_model.specs.Runs.{Content}
-use Rattle.bit_machine.specs.Chips.{wires_of, IsCompared}
-use Rattle.bit_machine.specs.Vectors.{byte_at, IsLineOf}
+use Rattle.vector_lines.specs.Wires.{wires_of, IsCompared}
+use Rattle.vector_lines.specs.Vectors.{byte_at, IsLineOf}
 use Rattle.tester_vectors.specs.Marks.{mark, Marks, MarksStand}
 use Rattle.tester_vectors.specs.VectorText.{cycle_line}
 use Rattle.tester_vectors.proofs.ReadBits.{compared_or_not}

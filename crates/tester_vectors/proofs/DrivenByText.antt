@@ -12,7 +12,7 @@ use Rattle.plan_model.specs.Runs.{Content, bits_at, operation_at, carried, shown
 use Rattle.plan_model.proofs.LoadsAndReads.{begun_at, loaded_bit}
 use Rattle.plan_model.proofs.TestsInGoodPlans.{apart, is_tam_test}
 use Rattle.plan_model.proofs.GoodPlansRunRight.{every_good_plan_is_right}
-use Rattle.bit_machine.specs.Chips.{wires_of}
+use Rattle.vector_lines.specs.Wires.{wires_of}
 use Rattle.tester_vectors.specs.Marks.{digit, response_digits, Marks, MarksReads}
 use Rattle.tester_vectors.specs.VectorText.{marked_text, vector_text}
 use Rattle.tester_vectors.specs.DrivenRuns.{IsDriven, with_initial, RunsAsShown}

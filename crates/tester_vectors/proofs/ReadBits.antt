@@ -12,7 +12,7 @@ use Rattle.plan_model.proofs.GoodPlansRunRight.{every_good_plan_is_right}
 use Rattle.live_tests.specs.Reads.{read_of}
 use Rattle.live_tests.proofs.CountedBack.{Reading, reading, of_read, of_first_cases, unread}
 use Rattle.tester_vectors.specs.Marks.{mark_of, mark, Marks, MarksStand}
-use Rattle.bit_machine.specs.Chips.{IsCompared}
+use Rattle.vector_lines.specs.Wires.{IsCompared}
 
 module _ (marks : Marks) (c w : ℕ) where
   -- the mark that a test gives a wire

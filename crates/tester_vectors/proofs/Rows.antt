@@ -5,7 +5,7 @@ use Rattle.soc_model.specs.Chips.{SocValue, live_from}
 use Rattle.plan_model.specs.Operations.{ops_of}
 use Rattle.plan_model.specs.Plans.{PlanValue, OfModule, planned, planned_test}
 use Rattle.plan_model.specs.Runs.{carried}
-use Rattle.bit_machine.specs.Chips.{made_bit, made_content}
+use Rattle.vector_lines.specs.Made.{made_bit, made_content}
 use Rattle.tester_vectors.specs.Marks.{response_digits, Marks}
 use Rattle.tester_vectors.specs.VectorText.{cycle_line}
 

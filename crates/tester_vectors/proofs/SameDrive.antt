@@ -7,7 +7,7 @@ use Rattle.plan_model.specs.Right.{IsAt}
 use Rattle.plan_model.specs.Runs.{Content, State, next_bits, bits_at, chain_at, operation_at, each_chain, step, run_with}
 use Rattle.plan_model.proofs.ChainsInTheRun.{AreApart}
 use Rattle.plan_model.proofs.TestsInGoodPlans.{on_bus}
-use Rattle.bit_machine.specs.Chips.{wires_of}
+use Rattle.vector_lines.specs.Wires.{wires_of}
 use Rattle.common_lemmas.proofs.Lists.{taken_within}
 
 pub same_over_range : {X : Type 0} (f g : ℕ → X) (a n : ℕ) → ((j : ℕ) → a ≤ j → j < a + n → f j ≡ g j) → map f (range_with_len a n) ≡ map g (range_with_len a n)

@@ -6,7 +6,7 @@ use Rattle.std.proofs.lemmas.List.FromFn.{length-map-range_with_len}
 use Rattle.soc_model.specs.Chips.{SocValue}
 use Rattle.plan_model.specs.Plans.{PlanValue, PlannedTest, planned}
 use Rattle.plan_model.specs.Runs.{Content, carried}
-use Rattle.bit_machine.specs.Chips.{wires_of}
+use Rattle.vector_lines.specs.Wires.{wires_of}
 use Rattle.tester_vectors.specs.Marks.{digit, mark, Marks}
 use Rattle.tester_vectors.specs.VectorText.{head_line, driven_text, compared_text, cycle_line, marked_text}
 use Rattle.tester_vectors.specs.DrivenRuns.{line_begin}

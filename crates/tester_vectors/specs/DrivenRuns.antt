@@ -7,7 +7,7 @@ use Rattle.plan_model.specs.Operations.{Capture}
 use Rattle.plan_model.specs.Plans.{PlanValue, PlannedTest, planned}
 use Rattle.plan_model.specs.Right.{IsAt, HoldsStimulus}
 use Rattle.plan_model.specs.Runs.{Content, operation_at, carried, shown, run_with}
-use Rattle.bit_machine.specs.Chips.{wires_of, IsCompared}
+use Rattle.vector_lines.specs.Wires.{wires_of, IsCompared}
 use Rattle.tester_vectors.specs.Marks.{digit}
 use Rattle.tester_vectors.specs.VectorText.{head_line}
 

@@ -6,9 +6,9 @@ use Rattle.plan_model.specs.Plans.{PlanValue, planned}
 use Rattle.plan_model.specs.Rules.{IsGoodAlone}
 use Rattle.plan_model.specs.Runs.{Content}
 use Rattle.plan_model.specs.Views.{plan_value}
-use Rattle.bit_machine.specs.Chips.{wires_of}
-use Rattle.bit_machine.specs.Marks.{Keys, Marks}
-use Rattle.bit_machine.specs.Vectors.{AreVectors}
+use Rattle.vector_lines.specs.Wires.{wires_of}
+use Rattle.vector_lines.specs.Marks.{Keys, Marks}
+use Rattle.vector_lines.specs.Vectors.{AreVectors}
 use Rattle.tester_vectors.specs.declared.text.Run.{Run}
 use Rattle.tester_vectors.specs.VectorText.{head_line, cycle_line}
 

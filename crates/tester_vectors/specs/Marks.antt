@@ -6,8 +6,8 @@ use Rattle.plan_model.specs.Plans.{PlannedTest, PlanValue, planned, uses, of_fir
 use Rattle.plan_model.specs.Right.{IsAt, IsReadAt}
 use Rattle.plan_model.specs.Runs.{Content}
 use Rattle.live_tests.specs.Reads.{read_of}
-use Rattle.bit_machine.specs.Chips.{IsCompared}
-pub use Rattle.bit_machine.specs.Marks.{digit, Marks, response_digits}
+use Rattle.vector_lines.specs.Wires.{IsCompared}
+pub use Rattle.vector_lines.specs.Marks.{digit, Marks, response_digits}
 
 -- the mark of the response bit that is read, or `-`
 abbrev pub mark_of : (bits : ℕ → Cell → ℕ) → Option (ℕ × Cell) → ℕ

@@ -4,7 +4,7 @@ use Rattle.std.specs.List.{flat_map, range_with_len}
 use Rattle.soc_model.specs.Chips.{SocValue}
 use Rattle.plan_model.specs.Plans.{PlannedTest, PlanValue, planned}
 use Rattle.plan_model.specs.Runs.{Content, carried}
-use Rattle.bit_machine.specs.Chips.{wires_of}
+use Rattle.vector_lines.specs.Wires.{wires_of}
 use Rattle.tester_vectors.specs.declared.TheConstants.{RUN_MOST}
 use Rattle.tester_vectors.specs.Marks.{digit, mark, Marks, response_digits}
 

@@ -13,8 +13,9 @@ ghost use Rattle.plan_model.specs.Views.{plan_value};
 ghost use Rattle.outside.specs.Held.{Rose, Appended, AppendedFront};
 ghost use Rattle.outside.specs.Puts.{Puts};
 ghost use Rattle.plan_model.specs.Runs.{Content};
-ghost use Rattle.bit_machine.specs.Chips.{wires_of, made_content};
-ghost use Rattle.bit_machine.specs.Placed.{StandFor};
+ghost use Rattle.vector_lines.specs.Wires.{wires_of};
+ghost use Rattle.vector_lines.specs.Made.{made_content};
+ghost use Rattle.vector_lines.specs.Placed.{StandFor};
 ghost use Rattle.tester_vectors.specs.Marks.{Marks, MarksReads, MarksStand};
 ghost use Rattle.tester_vectors.specs.VectorText.{marked_text, wire_cycles as cycles_by_wires, vector_text as whole_text};
 ghost use Rattle.tester_vectors.specs.DrivenRuns.{RunsAsShown};
@@ -22,7 +23,6 @@ ghost use Rattle.tester_vectors.specs.DrivenRuns.{RunsAsShown};
 mod laws;
 mod text;
 
-use bit_machine::{Contents, MadeContents, made_contents_stand};
 pub use laws::{marks_are_reads, marks_stand, vectors_run_as_shown};
 use live_tests::{LiveTests, Placed, PlacedPlan, all_wires};
 use outside::Sink;
@@ -31,6 +31,7 @@ use soc_model::Soc;
 use std::alloc::Global;
 use text::Run;
 pub use text::{cells_over, too_many_cells};
+use vector_lines::{Contents, MadeContents, made_contents_stand};
 
 /// The cycles of a run of vectors times its wires, at most. A plan without wires counts as one of one wire.
 pub const RUN_MOST: u128 = 20_000_000;

@@ -5,19 +5,19 @@ ghost use Rattle.outside.specs.Held.{Rose, Appended, AppendedFront};
 ghost use Rattle.outside.specs.Puts.{Puts};
 ghost use Rattle.plan_model.specs.Views.{plan_value};
 ghost use Rattle.plan_model.specs.Runs.{Content};
-ghost use Rattle.bit_machine.specs.Chips.{wires_of};
-ghost use Rattle.bit_machine.specs.Marks.{Marks};
-ghost use Rattle.bit_machine.specs.Placed.{StandFor};
+ghost use Rattle.vector_lines.specs.Wires.{wires_of};
+ghost use Rattle.vector_lines.specs.Marks.{Marks};
+ghost use Rattle.vector_lines.specs.Placed.{StandFor};
 ghost use Rattle.tester_vectors.specs.VectorText.{head_line, marked_text, more_than, too_many};
 ghost use Rattle.tester_vectors.specs.Lines.{lines_of, IsRun, IsSamePlan};
 
 use crate::RUN_MOST;
-use bit_machine::{Contents, Vectors};
 use live_tests::{PlacedPlan, all_wires};
 use outside::{NoMemory, Sink, WriteFault, extend, push_number, put_all};
 use plan_model::Plan;
 use soc_model::Soc;
 use std::alloc::Global;
+use vector_lines::{Contents, Vectors};
 
 /// How many bytes of lines are written at a time, some.
 const BLOCK: usize = 65_536;

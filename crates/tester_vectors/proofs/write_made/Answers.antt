@@ -2,7 +2,7 @@ use Rattle.std.proofs.Common.{subst}
 use Rattle.soc_model.specs.SoundChips.{IsSoundChip}
 use Rattle.plan_model.specs.Rules.{IsGoodAlone, bare_limits}
 use Rattle.live_tests.specs.PlacedPlans.{PlacedPlanValue}
-use Rattle.bit_machine.specs.Chips.{made_content}
+use Rattle.vector_lines.specs.Made.{made_content}
 use Rattle.tester_vectors.specs.Marks.{response_digits}
 use Rattle.tester_vectors.proofs.DrivenByText.{runs_as_shown}
 use Rattle.tester_vectors.proofs.ReadBits.{marks_stand_in}

@@ -1,7 +1,7 @@
 use Rattle.soc_model.specs.Chips.{soc_value}
 use Rattle.plan_model.specs.Rules.{bare_limits}
 use Rattle.plan_model.specs.Views.{plan_value}
-use Rattle.bit_machine.specs.Chips.{made_content}
+use Rattle.vector_lines.specs.Made.{made_content}
 use Rattle.tester_vectors.specs.Marks.{response_digits}
 use Rattle.tester_vectors.proofs.DrivenByText.{runs_as_shown}
 use Rattle.tester_vectors.proofs.ReadBits.{marks_stand_in}

@@ -1,7 +1,8 @@
 use Rattle.std.proofs.Common.{◌≡◌, List, length}
 use Rattle.plan_model.specs.Plans.{PlannedTest}
 use Rattle.plan_model.specs.Runs.{Content}
-use Rattle.bit_machine.specs.Machines.{AreStepped, AreOnWires, AreUsersBelow}
+use Rattle.bit_machine.specs.Machines.{AreStepped, AreUsersBelow}
+use Rattle.vector_lines.specs.Wires.{AreOnWires}
 use Rattle.bit_machine.proofs.machine.assign_wires.Given as goal
 
 abbrev pub invariant-loop-place : goal.invariant-loop-place

@@ -1,7 +1,7 @@
 use Rattle.std.proofs.Common.{◌∙◌, ap, sym}
 use Rattle.std.proofs.lemmas.Option.{slice_get-get_or}
 use Rattle.bit_machine.specs.declared.stepped.SteppedLane.{SteppedLane}
-use Rattle.bit_machine.proofs.Assigning.{set_elsewhere}
+use Rattle.vector_lines.proofs.Columns.{set_elsewhere}
 use Rattle.bit_machine.proofs.Standing.{own_unstood, own_stood}
 use Rattle.bit_machine.proofs.machine.stand_at.Goals as goal
 

@@ -1,6 +1,6 @@
 use Rattle.std.proofs.Common.{◌≡◌, ℕ, ◌<◌, Some, length, slice_get, slice_index}
-use Rattle.bit_machine.specs.Numbers.{IsLineWord}
-use Rattle.bit_machine.specs.declared.path.Path.{Path}
+use Rattle.bit_machine.specs.Packed.{IsLineWord}
+use Rattle.vector_lines.specs.declared.path.Path.{Path}
 use Rattle.bit_machine.proofs.stepped.fill_words.Given as goal
 
 abbrev pub invariant-loop-place : goal.invariant-loop-place

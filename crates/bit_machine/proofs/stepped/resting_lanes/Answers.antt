@@ -2,7 +2,7 @@ use Rattle.std.proofs.Common.{◌∙◌, List, sym, subst}
 use Rattle.std.proofs.lemmas.Iterator.Adapters.{YieldsList-from_vec}
 use Rattle.std.proofs.lemmas.Iterator.Consumers.{YieldsList-end}
 use Rattle.bit_machine.specs.Lanes.{AreAtRest}
-use Rattle.bit_machine.specs.declared.lane.Lane.{Lane}
+use Rattle.vector_lines.specs.declared.lane.Lane.{Lane}
 use Rattle.bit_machine.proofs.LaneSteps.{same_items, no_rest, rest_more}
 use Rattle.bit_machine.proofs.stepped.resting_lanes.Goals as goal
 

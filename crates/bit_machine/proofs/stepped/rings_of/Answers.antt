@@ -1,8 +1,8 @@
 use Rattle.std.proofs.Common.{◌∙◌, ap, replicate, false}
 use Rattle.std.proofs.lemmas.List.{take_all}
 use Rattle.bit_machine.specs.Lanes.{resting_bits}
-use Rattle.bit_machine.specs.declared.path.Path.{Path}
-use Rattle.bit_machine.proofs.Layouts.{mapped_more}
+use Rattle.vector_lines.specs.declared.path.Path.{Path}
+use Rattle.vector_lines.proofs.Layouts.{mapped_more}
 use Rattle.bit_machine.proofs.stepped.rings_of.Goals as goal
 
 pub loop-path-preserved : goal.loop-path-preserved

@@ -1,8 +1,8 @@
 use Rattle.std.proofs.Common.{◌≡◌, ◌+◌, ◌++◌, ◌∙◌, ap, sym, refl, map, take, arith}
 use Rattle.std.specs.List.{range_with_len}
 use Rattle.std.proofs.lemmas.List.{length-set}
-use Rattle.bit_machine.specs.Chips.{has_odd_square}
-use Rattle.bit_machine.specs.Numbers.{line_value}
+use Rattle.vector_lines.specs.Made.{has_odd_square}
+use Rattle.vector_lines.specs.Numbers.{line_value}
 use Rattle.made_data.specs.DataText.{bit_byte}
 use Rattle.made_data.specs.Entries.{data_bit}
 use Rattle.made_data.specs.Parts.{made_byte}

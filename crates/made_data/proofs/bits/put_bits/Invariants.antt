@@ -1,6 +1,6 @@
 use Rattle.std.proofs.Common.{◌≡◌, ◌+◌, ◌++◌, ◌<◌, ℕ, length, map, take}
 use Rattle.std.specs.List.{range_with_len}
-use Rattle.bit_machine.specs.Numbers.{line_value}
+use Rattle.vector_lines.specs.Numbers.{line_value}
 use Rattle.made_data.specs.Parts.{made_byte}
 use Rattle.made_data.proofs.bits.put_bits.Given as goal
 

@@ -1,5 +1,5 @@
 use Rattle.std.proofs.Common.{◌∙◌, ap}
-use Rattle.bit_machine.specs.Chips.{wires_of}
+use Rattle.vector_lines.specs.Wires.{wires_of}
 use Rattle.live_tests.specs.PlacedPlans.{PlacedPlanValue}
 use Rattle.plan_simulator.proofs.Stepping.{first_after}
 use Rattle.plan_simulator.proofs.running.run_plan.Goals as goal

@@ -1,5 +1,5 @@
 use Rattle.std.proofs.Common.{◌≡◌, length}
-use Rattle.bit_machine.specs.Chips.{wires_of}
+use Rattle.vector_lines.specs.Wires.{wires_of}
 use Rattle.plan_simulator.specs.Steps.{IsAfter}
 use Rattle.plan_simulator.proofs.running.run_plan.Given as goal
 

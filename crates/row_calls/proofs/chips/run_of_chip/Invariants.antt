@@ -1,6 +1,6 @@
 use Rattle.std.proofs.Common.{◌≡◌}
 use Rattle.plan_model.specs.Views.{plan_value}
-use Rattle.bit_machine.specs.Chips.{wires_of}
+use Rattle.vector_lines.specs.Wires.{wires_of}
 use Rattle.row_calls.specs.Widths.{IsWide}
 use Rattle.row_calls.proofs.chips.run_of_chip.Given as goal
 

@@ -1,7 +1,7 @@
 use Rattle.std.proofs.Common.{◌∙◌, ap, sym, arith}
 use Rattle.soc_model.specs.Chips.{module_value}
 use Rattle.bit_machine.specs.Sessions.{SessionValue}
-use Rattle.bit_machine.proofs.LayoutsMade.{scan_counts}
+use Rattle.vector_lines.proofs.LayoutsMade.{scan_counts}
 use Rattle.row_calls.proofs.sessions.new_session.Goals as goal
 
 pub returns-clause-chains : goal.returns-clause-chains

@@ -1,5 +1,5 @@
 use Rattle.std.proofs.Common.{◌≡◌, inl, inr, refl, ap}
-use Rattle.bit_machine.specs.Chips.{made_content}
+use Rattle.vector_lines.specs.Made.{made_content}
 use Rattle.tester_vectors.specs.VectorText.{wire_cycles, vector_text, too_many}
 use Rattle.commands.proofs.LoadsWritten.{puts_refused}
 use Rattle.commands.proofs.UnlessRefused.{nothing_written}

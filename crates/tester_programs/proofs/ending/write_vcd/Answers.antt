@@ -1,6 +1,6 @@
 use Rattle.std.proofs.Common.{List, None, ap, length, subst, ℕ, ◌∙◌}
 use Rattle.live_tests.specs.PlacedPlans.{PlacedPlanValue}
-use Rattle.bit_machine.specs.Chips.{wires_of}
+use Rattle.vector_lines.specs.Wires.{wires_of}
 use Rattle.controls.specs.Controls.{controls}
 use Rattle.vcd_text.specs.Dumps.{dump_head, dump_part, dump_tail, part_text}
 use Rattle.vcd_text.specs.Forms.{form_sources}

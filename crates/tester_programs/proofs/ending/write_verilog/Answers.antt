@@ -1,6 +1,6 @@
 use Rattle.std.proofs.Common.{List, None, ap, length, subst, ℕ, ◌∙◌}
 use Rattle.live_tests.specs.PlacedPlans.{PlacedPlanValue}
-use Rattle.bit_machine.specs.Chips.{wires_of}
+use Rattle.vector_lines.specs.Wires.{wires_of}
 use Rattle.controls.specs.Controls.{controls}
 use Rattle.verilog_text.specs.VerilogText.{verilog_head}
 use Rattle.commands.specs.Ends.{WritesUnless}

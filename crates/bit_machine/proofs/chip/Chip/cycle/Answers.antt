@@ -3,7 +3,7 @@ use Rattle.std.specs.Global.{Vec}
 use Rattle.soc_model.specs.Chips.{soc_value}
 use Rattle.plan_model.specs.Views.{plan_value}
 use Rattle.plan_model.specs.Plans.{planned}
-use Rattle.bit_machine.specs.Chips.{made_content}
+use Rattle.vector_lines.specs.Made.{made_content}
 use Rattle.bit_machine.proofs.WholeChip.{advance_fits, sums_fit, next_chip, counted, counted_right, shown_row}
 use Rattle.bit_machine.proofs.chip.Chip.cycle.Goals as goal
 

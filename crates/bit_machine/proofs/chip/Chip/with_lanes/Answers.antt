@@ -2,7 +2,8 @@ use Rattle.std.proofs.Common.{◌∙◌, refl, arith}
 use Rattle.soc_model.specs.Chips.{soc_value}
 use Rattle.plan_model.specs.Views.{plan_value}
 use Rattle.bit_machine.proofs.MadeLanes.{made_lanes}
-use Rattle.bit_machine.proofs.NewChips.{new_chip, new_some, new_state, first_value, wires_are}
+use Rattle.bit_machine.proofs.NewChips.{new_chip, new_some, new_state, first_value}
+use Rattle.vector_lines.proofs.NewVectors.{wires_are}
 use Rattle.bit_machine.proofs.chip.Chip.with_lanes.Goals as goal
 
 pub new-machine-requires : goal.new-machine-requires

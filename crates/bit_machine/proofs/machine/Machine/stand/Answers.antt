@@ -1,7 +1,8 @@
 use Rattle.std.proofs.Common.{◌∙◌, ap, sym, subst, length, List, ℕ, Option, arith}
 use Rattle.std.specs.Vec.{with_items}
 use Rattle.std.proofs.lemmas.List.{with_items_is}
-use Rattle.bit_machine.specs.Machines.{FitLanes, AreStepped, AreNow, AreOnWires, lanes_state}
+use Rattle.bit_machine.specs.Machines.{FitLanes, AreStepped, AreNow, lanes_state}
+use Rattle.vector_lines.specs.Wires.{AreOnWires}
 use Rattle.bit_machine.specs.declared.stepped.SteppedLane.{SteppedLane}
 use Rattle.bit_machine.proofs.Assigning.{lanes_fit, users_stand, stood}
 use Rattle.bit_machine.proofs.machine.Machine.stand.Goals as goal

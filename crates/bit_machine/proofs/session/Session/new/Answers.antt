@@ -1,5 +1,5 @@
 use Rattle.std.proofs.Common.{sym, subst}
-use Rattle.bit_machine.specs.Layouts.{IsLong}
+use Rattle.bit_machine.specs.Sessions.{IsLong}
 use Rattle.bit_machine.proofs.Layouts.{zeros-long}
 use Rattle.bit_machine.proofs.session.Session.new.Goals as goal
 

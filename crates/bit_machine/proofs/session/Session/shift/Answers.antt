@@ -1,7 +1,6 @@
 use Rattle.std.proofs.Common.{◌∙◌, ap, sym, subst, length, arith}
 use Rattle.std.proofs.lemmas.List.{with_items_is}
-use Rattle.bit_machine.specs.Sessions.{each_with, entered}
-use Rattle.bit_machine.specs.Layouts.{IsLong}
+use Rattle.bit_machine.specs.Sessions.{each_with, entered, IsLong}
 use Rattle.bit_machine.proofs.SessionSteps.{shifted_long, shifted_bits}
 use Rattle.bit_machine.proofs.session.Session.shift.Goals as goal
 

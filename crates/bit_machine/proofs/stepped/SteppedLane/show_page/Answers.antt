@@ -4,7 +4,7 @@ use Rattle.std.proofs.lemmas.List.{with_items_is}
 use Rattle.std.proofs.lemmas.Option.{same_Some}
 use Rattle.bit_machine.specs.Lanes.{IsPageWord}
 use Rattle.bit_machine.specs.declared.stepped.Page.{Page}
-use Rattle.bit_machine.specs.declared.path.Path.{Path}
+use Rattle.vector_lines.specs.declared.path.Path.{Path}
 use Rattle.bit_machine.proofs.LaneSteps.{page_word}
 use Rattle.bit_machine.proofs.stepped.SteppedLane.show_page.Goals as goal
 

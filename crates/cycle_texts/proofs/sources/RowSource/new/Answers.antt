@@ -1,7 +1,7 @@
 use Rattle.std.proofs.Common.{◌∙◌, ap, subst, arith}
 use Rattle.plan_model.specs.Rules.{IsGoodAlone}
 use Rattle.live_tests.specs.PlacedPlans.{PlacedPlanValue}
-use Rattle.bit_machine.specs.Chips.{wires_of}
+use Rattle.vector_lines.specs.Wires.{wires_of}
 use Rattle.cycle_texts.proofs.sources.RowSource.new.Goals as goal
 
 pub all_wires-wires-requires : goal.all_wires-wires-requires

@@ -1,8 +1,8 @@
 use Rattle.std.proofs.Common.{◌≡◌, ◌+◌, ◌*◌, ◌++◌, ◌∙◌, ℕ, List, ap, subst, sym, arith}
 use Rattle.plan_model.specs.Views.{plan_value}
 use Rattle.live_tests.specs.PlacedPlans.{PlacedPlanValue}
-use Rattle.bit_machine.specs.Chips.{wires_of}
-use Rattle.bit_machine.specs.Vectors.{AreVectors}
+use Rattle.vector_lines.specs.Wires.{wires_of}
+use Rattle.vector_lines.specs.Vectors.{AreVectors}
 use Rattle.tester_vectors.specs.VectorText.{head_line}
 use Rattle.tester_vectors.proofs.text.Run.new.Goals as goal
 

@@ -4,7 +4,7 @@ use Rattle.outside.specs.Held.{AppendedFront}
 use Rattle.outside.proofs.PieceLemmas.{puts_then}
 use Rattle.soc_model.specs.Chips.{soc_value}
 use Rattle.plan_model.specs.Views.{plan_value}
-use Rattle.bit_machine.specs.Chips.{wires_of}
+use Rattle.vector_lines.specs.Wires.{wires_of}
 use Rattle.tester_vectors.specs.Lines.{lines_of}
 use Rattle.tester_vectors.specs.VectorText.{head_line, marked_text}
 use Rattle.tester_vectors.proofs.Blocks.{front_after, front_longer}

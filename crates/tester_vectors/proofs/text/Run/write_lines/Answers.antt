@@ -5,7 +5,7 @@ use Rattle.outside.proofs.PieceLemmas.{Appended-nil, Appended-then, puts_then}
 use Rattle.soc_model.specs.Chips.{soc_value}
 use Rattle.plan_model.specs.Plans.{PlanValue, planned}
 use Rattle.plan_model.specs.Views.{plan_value}
-use Rattle.bit_machine.specs.Chips.{wires_of}
+use Rattle.vector_lines.specs.Wires.{wires_of}
 use Rattle.tester_vectors.specs.Lines.{lines_of}
 use Rattle.tester_vectors.specs.VectorText.{cycle_line}
 use Rattle.tester_vectors.proofs.Blocks.{lines_more_split, lines_rest, front_after, same_lines}

@@ -4,8 +4,8 @@ use Rattle.outside.specs.Puts.{Puts}
 use Rattle.soc_model.specs.Chips.{soc_value}
 use Rattle.plan_model.specs.Runs.{Content}
 use Rattle.plan_model.specs.Views.{plan_value}
-use Rattle.bit_machine.specs.Marks.{Marks}
-use Rattle.bit_machine.specs.Placed.{StandFor}
+use Rattle.vector_lines.specs.Marks.{Marks}
+use Rattle.vector_lines.specs.Placed.{StandFor}
 use Rattle.tester_vectors.specs.Lines.{lines_of, IsRun, IsSamePlan}
 use Rattle.tester_vectors.proofs.text.Run.write_lines.Given as goal
 

@@ -1,6 +1,0 @@
-use Rattle.std.proofs.Common.{◌≡◌, length, take}
-use Rattle.bit_machine.specs.Numbers.{all_numbers}
-use Rattle.bit_machine.proofs.numbers.count_of.Given as goal
-
-abbrev pub invariant-loop-run : goal.invariant-loop-run
-invariant-loop-run l = l.count ≡ length (all_numbers (take l.run-index l.runs))

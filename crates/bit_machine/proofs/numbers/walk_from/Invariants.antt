@@ -1,5 +1,0 @@
-use Rattle.bit_machine.proofs.Walks.{IsReached}
-use Rattle.bit_machine.proofs.numbers.walk_from.Given as goal
-
-abbrev pub invariant-loop-run : goal.invariant-loop-run
-invariant-loop-run g l = IsReached l.runs l.place l.run l.before

@@ -1,4 +1,0 @@
-use Rattle.bit_machine.proofs.path.Path.step.Goals as goal
-
-pub returns-in-Capture-clause-bits : goal.returns-in-Capture-clause-bits
-returns-in-Capture-clause-bits c = λ inputs lengths cells is same. rw c.in-Capture.is (c.capture.ensures.bits inputs lengths cells is same)

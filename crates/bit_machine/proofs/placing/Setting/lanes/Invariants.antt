@@ -1,7 +1,0 @@
-use Rattle.bit_machine.specs.Placed.{IsPlacedLane}
-use Rattle.bit_machine.specs.Machines.{AreLanes}
-use Rattle.bit_machine.proofs.PlacedTests.{planned_from}
-use Rattle.bit_machine.proofs.placing.Setting.lanes.Given as goal
-
-abbrev pub invariant-loop-place : goal.invariant-loop-place
-invariant-loop-place g l = AreLanes (IsPlacedLane (g.C.Contents.keys l.contents) l.self.placed.now.soc l.self.placed.now.plan) (planned_from l.self.placed.now.plan l.self.placed.now.soc.modules l.place) l.lanes.items

@@ -1,0 +1,17 @@
+pub mod Responses
+pub mod Layouts
+pub mod LayoutsMade
+pub mod MadeBits
+pub mod Walks
+pub mod Numbering
+pub mod Stimuli
+pub mod PlacedLanes
+pub mod PlacedTests
+pub mod MadeStand
+pub mod GoodWires
+pub mod Digits
+pub mod Columns
+pub mod ShiftStretches
+pub mod WireReads
+pub mod LinesOfTests
+pub mod NewVectors

@@ -1,0 +1,11 @@
+pub mod Places
+pub mod Marks
+pub mod Made
+pub mod Paths
+pub mod Numbers
+pub mod Wires
+pub mod Lanes
+pub mod Layouts
+pub mod Building
+pub mod Placed
+pub mod Vectors
