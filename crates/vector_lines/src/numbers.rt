@@ -192,7 +192,7 @@ fn count_of(runs: &[NumberRun]) -> usize
 
 impl Numbers {
     /// The numbers of runs that aren't empty.
-    pub fn new(runs: Vec<NumberRun>) -> Numbers
+    pub(crate) fn new(runs: Vec<NumberRun>) -> Numbers
         requires full { All IsFull runs.items }
         requires long { length (all_numbers runs.items) < 2 ^ 63 }
         ensures { result ≡ all_numbers runs.items }
@@ -218,7 +218,7 @@ impl Numbers {
 
     /// Writes the bytes of `count` numbers into a column, one a line: that of the number at the place `last`, and then those of the
     /// numbers before it.
-    pub fn put_back<B: PatternBits>(
+    pub(crate) fn put_back<B: PatternBits>(
         &self,
         bits: &B,
         last: usize,
