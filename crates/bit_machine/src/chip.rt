@@ -3,10 +3,9 @@ ghost use Rattle.std.specs.Prelude.{◌≡◌, ℕ, ◌+◌, ◌<◌, false, tru
 ghost use Rattle.soc_model.specs.Chips.{soc_value};
 ghost use Rattle.soc_model.specs.SoundChips.{IsSoundChip};
 ghost use Rattle.plan_model.specs.Plans.{planned};
-ghost use Rattle.plan_model.specs.Rules.{IsGoodAlone, live_ids};
+ghost use Rattle.plan_model.specs.Rules.{IsGoodAlone};
 ghost use Rattle.plan_model.specs.Runs.{step};
 ghost use Rattle.plan_model.specs.Views.{plan_value};
-ghost use Rattle.live_tests.specs.Placed.{IsPlaced};
 ghost use Rattle.vector_lines.specs.Lanes.{AreLanes};
 ghost use Rattle.vector_lines.specs.Made.{made_keys};
 ghost use Rattle.vector_lines.specs.Placed.{IsPlacedLane};
@@ -21,7 +20,7 @@ use plan_model::Plan;
 use soc_model::Soc;
 use std::alloc::Global;
 use std::marker::Model;
-use vector_lines::{Lane, MadeContents, placed_lanes, plan_of, soc_of};
+use vector_lines::{Lane, MadeContents, placed_lanes};
 
 /// What a chip under test has done.
 #[derive(Clone, Copy, PartialEq, Eq, Debug)]
@@ -88,29 +87,8 @@ fn made_lanes(alloc: Global, placed: &PlacedPlan<'_>, seed: u64) -> Result<Vec<L
         (λ lanes. AreLanes (IsPlacedLane (made_keys seed) placed.now.soc placed.now.plan)
         (planned placed.now.soc placed.now.plan) lanes.items) }
 {
-    let firsts = first_wires(alloc, plan_of(placed))?;
+    let firsts = first_wires(alloc, placed.plan)?;
     placed_lanes(alloc, placed, &MadeContents { seed }, &firsts)
-}
-
-/// The live tests of a good plan, by the made contents of a seed, where what the plan says by place is at hand.
-fn lanes_by(
-    alloc: Global,
-    soc: &Soc,
-    plan: &Plan,
-    seed: u64,
-    names: &LiveTests,
-    places: &Placed,
-) -> Result<Vec<Lane>, NoMemory>
-    requires sound { IsSoundChip (soc_value soc.now) }
-    requires good { IsGoodAlone (soc_value soc.now) (plan_value plan.now) }
-    requires names { names.now ≡ live_ids (soc_value soc.now) }
-    requires places { IsPlaced (soc_value soc.now) (plan_value plan.now) places.now }
-    ensures { IfOk result
-        (λ lanes. AreLanes (IsPlacedLane (made_keys seed) (soc_value soc.now) (plan_value plan.now))
-        (planned (soc_value soc.now) (plan_value plan.now)) lanes.items) }
-{
-    let placed = PlacedPlan::new(soc, plan, names, places);
-    made_lanes(alloc, &placed, seed)
 }
 
 /// Places a good plan, and makes its live tests by the made contents of a seed.
@@ -123,7 +101,8 @@ fn lanes_of(alloc: Global, soc: &Soc, plan: &Plan, seed: u64) -> Result<Vec<Lane
 {
     let names = LiveTests::new(alloc, soc)?;
     let places = Placed::new(alloc, soc, plan)?;
-    let lanes = lanes_by(alloc, soc, plan, seed, &names, &places);
+    let placed = PlacedPlan::new(soc, plan, &names, &places);
+    let lanes = made_lanes(alloc, &placed, seed);
     // dropped by calls: the end of the scope would drop each of their parts, and be proved for each
     drop(names);
     drop(places);
@@ -147,8 +126,7 @@ impl<'a> Chip<'a> {
         ensures { IfOk result (λ chip. chip ≡ at_first placed.now.soc placed.now.plan seed) }
     {
         let lanes = made_lanes(alloc, placed, seed)?;
-        let (soc, plan) = (soc_of(placed), plan_of(placed));
-        Chip::with_lanes(alloc, soc, plan, seed, lanes)
+        Chip::with_lanes(alloc, placed.soc, placed.plan, seed, lanes)
     }
 
     /// A chip whose live tests are at hand.

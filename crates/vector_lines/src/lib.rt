@@ -32,5 +32,5 @@ pub use layout::Layout;
 pub use made::{Line, MadeContents, bit_of};
 pub use numbers::{NumberRun, Numbers, Walk, next_value, walk_from};
 pub use path::Path;
-pub use placing::{placed_lanes, plan_of, soc_of};
+pub use placing::placed_lanes;
 pub use vectors::Vectors;

@@ -22,25 +22,9 @@ use crate::layout::Layout;
 use crate::path::Path;
 use live_tests::{ModeWrappers, PlacedPlan, PlacedTest};
 use outside::{NoMemory, push};
-use plan_model::{Phases, Plan, Wrapper};
-use soc_model::{Module, Soc, Test, TestId, live, module_at};
+use plan_model::{Phases, Wrapper};
+use soc_model::{Module, Test, TestId, live, module_at};
 use std::alloc::Global;
-
-/// The chip of a placed plan.
-pub fn soc_of<'a>(placed: &PlacedPlan<'a>) -> &'a Soc
-    ensures { soc_value result.now ≡ placed.now.soc }
-{
-    placed.soc
-}
-
-/// The plan of a placed plan. The call tells that it is good, and its chip sound.
-pub fn plan_of<'a>(placed: &PlacedPlan<'a>) -> &'a Plan
-    ensures plan { plan_value result.now ≡ placed.now.plan }
-    ensures sound { IsSoundChip placed.now.soc }
-    ensures good { IsGoodAlone placed.now.soc placed.now.plan }
-{
-    placed.plan
-}
 
 /// A self test, which has no chains.
 fn self_test(alloc: Global, placed: &PlacedTest) -> Lane
@@ -110,7 +94,8 @@ impl<'a> Setting<'a> {
         ensures first { result.0 ≡ sum (take bus (widths self.now.placed.now.plan)) }
         ensures width { result.1 ≡ slice_index (widths self.now.placed.now.plan) bus }
     {
-        let plan = plan_of(self.placed);
+        let placed = self.placed;
+        let plan = placed.plan;
         (self.firsts[bus] as usize, plan.buses[bus].width as usize)
     }
 
@@ -141,7 +126,8 @@ impl<'a> Setting<'a> {
     {
         let (core, test) = (wrapped.core, wrapped.test);
         let module = core.module;
-        let plan = plan_of(self.placed);
+        let whole = self.placed;
+        let plan = whole.plan;
         let Some(long) = core.wrappers.in_mode(test.scan) else {
             unreachable!()
         };
@@ -279,7 +265,8 @@ impl<'a> Setting<'a> {
             (IsPlacedLane (C.keys contents.now) self.now.placed.now.soc self.now.placed.now.plan)
             (planned self.now.placed.now.soc self.now.placed.now.plan) lanes.items) }
     {
-        let soc = soc_of(self.placed);
+        let placed = self.placed;
+        let soc = placed.soc;
         let mut lanes = Vec::new(alloc);
         for place in 0..soc.modules.len() {
             self.push_module(alloc, contents, &mut lanes, module_at(soc, place), place)?;

@@ -9,7 +9,7 @@ ghost use Rattle.vector_lines.specs.Vectors.{AreVectors, HaveRoom, IsLineOf, Mar
 
 use crate::contents::Contents;
 use crate::lane::Lane;
-use crate::placing::{placed_lanes, plan_of};
+use crate::placing::placed_lanes;
 use crate::stretches::put_tests;
 use live_tests::{PlacedPlan, first_wires};
 use outside::NoMemory;
@@ -32,7 +32,7 @@ impl Vectors {
     ) -> Result<Vectors, NoMemory>
         ensures { IfOk result (AreVectors (C.keys contents.now) placed.now.soc placed.now.plan) }
     {
-        let plan = plan_of(placed);
+        let plan = placed.plan;
         let firsts = first_wires(alloc, plan)?;
         let wires = firsts[plan.buses.len()] as usize;
         let lanes = placed_lanes(alloc, placed, contents, &firsts)?;
