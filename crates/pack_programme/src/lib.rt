@@ -15,8 +15,6 @@ mod lines;
 mod programme;
 mod ratios;
 mod tableau;
-#[cfg(test)]
-mod tests;
 mod written;
 
 pub use fractions::UNIT;

@@ -28,8 +28,6 @@ mod rounds;
 mod rows;
 mod scheme;
 mod spans;
-#[cfg(test)]
-mod tests;
 mod warm;
 mod whole;
 mod worst;

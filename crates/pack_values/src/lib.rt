@@ -23,8 +23,6 @@ mod prices;
 mod room;
 mod sets;
 mod terms;
-#[cfg(test)]
-mod tests;
 mod uses;
 mod wires;
 

@@ -1,8 +1,7 @@
 //! Values beside those of plain knapsacks, of all sets and all widths, and rows of leaves with known answers.
 
-use crate::marks::wipe;
-use crate::{PackCase, PackRoom, Prices, REST, Uses, leaf_work};
 use outside::{NoMemory, both};
+use pack_values::{PackCase, PackRoom, Prices, REST, Uses, leaf_work};
 use std::alloc::Global;
 use std::test::Fail;
 use tables::{NONE, filled, item_or, put_item};
@@ -132,7 +131,7 @@ fn made_prices(alloc: Global, case: &PackCase, seed: u64) -> Result<Prices, NoMe
 
 /// A made case without ranks, with lists and prices.
 #[derive(Drop)]
-struct Problem {
+struct MadeProblem {
     case: PackCase,
     uses: MadeUses,
     prices: Prices,
@@ -145,19 +144,19 @@ fn made_problem(
     most: u64,
     share: u64,
     seed: u64,
-) -> Result<Problem, NoMemory> {
+) -> Result<MadeProblem, NoMemory> {
     let [wires, modules] = size;
     let case = made_chip(alloc, wires, modules, most, seed)?;
     let (uses, prices) = both(
         MadeUses::new(alloc, &case, share),
         made_prices(alloc, &case, seed),
     )?;
-    Ok(Problem { case, uses, prices })
+    Ok(MadeProblem { case, uses, prices })
 }
 
 /// A bus of a case at a claim, with cells of `grain` cycles.
 #[derive(Clone, Copy)]
-struct BusAt {
+struct TriedBus {
     rank: usize,
     width: usize,
     claim: u64,
@@ -165,7 +164,7 @@ struct BusAt {
 }
 
 /// What a module is worth on a bus, 0 without a slot.
-fn net_of(problem: &Problem, module: usize, bus: BusAt) -> u64 {
+fn net_of(problem: &MadeProblem, module: usize, bus: TriedBus) -> u64 {
     if !problem
         .case
         .has_slot(module, bus.rank, bus.width, bus.claim)
@@ -188,7 +187,7 @@ fn cells_of(case: &PackCase, module: usize, width: usize, grain: u64) -> u64 {
 }
 
 /// What some modules are worth on a bus; nothing where they don't fit.
-fn worth_of(problem: &Problem, bus: BusAt, modules: &[bool]) -> Option<u64> {
+fn worth_of(problem: &MadeProblem, bus: TriedBus, modules: &[bool]) -> Option<u64> {
     let mut cells: u64 = 0;
     let mut worth: u64 = 0;
     for module in 0..problem.case.modules {
@@ -214,7 +213,7 @@ fn worth_of(problem: &Problem, bus: BusAt, modules: &[bool]) -> Option<u64> {
 }
 
 /// The most on a bus, over all sets of at most 12 modules.
-fn by_sets(problem: &Problem, bus: BusAt) -> u64 {
+fn by_sets(problem: &MadeProblem, bus: TriedBus) -> u64 {
     let mut most: u64 = 0;
     for set in 0..1u64 << (problem.case.modules.min(12)) {
         let mut modules = [false; 12];
@@ -228,8 +227,10 @@ fn by_sets(problem: &Problem, bus: BusAt) -> u64 {
 }
 
 /// The most on a bus, by a plain knapsack over a row of cells.
-fn by_row(problem: &Problem, bus: BusAt, row: &mut [u64]) -> u64 {
-    wipe(row);
+fn by_row(problem: &MadeProblem, bus: TriedBus, row: &mut [u64]) -> u64 {
+    for worth in row.iter_mut() {
+        *worth = 0;
+    }
     let cells = bus
         .claim
         .saturating_sub(1)
@@ -251,12 +252,12 @@ fn by_row(problem: &Problem, bus: BusAt, row: &mut [u64]) -> u64 {
 }
 
 /// The most on all buses of a case of two known ranks, over all widths: of each rank, and of at most three buses of the rest.
-fn by_widths(problem: &Problem, claim: u64, grain: u64) -> u64 {
+fn by_widths(problem: &MadeProblem, claim: u64, grain: u64) -> u64 {
     let mut worth = [[0u64; 8]; 3];
     for range in 0..3 {
         let rank = if range < 2 { range } else { REST };
         for width in 1..8 {
-            let bus = BusAt {
+            let bus = TriedBus {
                 rank,
                 width,
                 claim,
@@ -335,7 +336,7 @@ fn begin_one(case: &mut PackCase, width: usize) {
 }
 
 /// Works out what a problem is worth.
-fn value_of(room: &mut PackRoom, problem: &Problem, claim: u64, grain: u64, keep: bool) {
+fn value_of(room: &mut PackRoom, problem: &MadeProblem, claim: u64, grain: u64, keep: bool) {
     room.value(
         &problem.case,
         &problem.uses,
@@ -369,7 +370,7 @@ fn small_cases(rt: HostRuntime) -> Result<(), Fail> {
             );
             assert!(rt; room.sets() > 2);
             for at in 0..room.sets() {
-                let bus = BusAt {
+                let bus = TriedBus {
                     rank: room.set_rank(at),
                     width: room.set_width(at),
                     claim,
@@ -397,7 +398,7 @@ fn many_modules(rt: HostRuntime) -> Result<(), Fail> {
         for width in 1..5 {
             begin_one(&mut problem.case, width);
             let grain = 1 + seed % 4;
-            let bus = BusAt {
+            let bus = TriedBus {
                 rank: 0,
                 width,
                 claim: 2000,

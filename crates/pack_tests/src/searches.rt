@@ -1,7 +1,7 @@
 //! Small cases whose best plans were worked out by hand.
 
-use crate::{Asked, Found, PackSearch, Warm};
 use outside::NoMemory;
+use pack_search::{Asked, Found, PackSearch, Warm};
 use pack_values::{PackCase, PackRoom, Prices, REST, Uses};
 use std::alloc::Global;
 use std::test::Fail;
@@ -45,7 +45,7 @@ fn three_modules(alloc: Global, wires: usize, cycles: u64) -> Result<PackCase, N
 }
 
 /// Searches a case from equal prices.
-fn search(
+fn found_from_equal(
     alloc: Global,
     search: &mut PackSearch,
     case: &PackCase,
@@ -77,7 +77,7 @@ fn whole_modules_are_packed(rt: HostRuntime) -> Result<(), Fail> {
     // two of three modules share one of two buses, where sums say that 15 cycles are enough
     let case = three_modules(alloc, 2, 10)?;
     let mut search_room = PackSearch::new(alloc, 3, 2)?;
-    let found = search(alloc, &mut search_room, &case, &uses, (15, 25), &[])?;
+    let found = found_from_equal(alloc, &mut search_room, &case, &uses, (15, 25), &[])?;
     assert_eq!(rt; found.claim, 20);
     assert_eq!(rt; found.far, 21);
     let mut room = PackRoom::new(alloc, 3, 2)?;
@@ -86,7 +86,7 @@ fn whole_modules_are_packed(rt: HostRuntime) -> Result<(), Fail> {
     assert!(rt; room.holds(&case, &uses, &leaf.prices, 20, leaf.grain));
     assert!(rt; !room.holds(&case, &uses, &leaf.prices, 21, leaf.grain));
     // a greater claim isn't to be had
-    let found = search(alloc, &mut search_room, &case, &uses, (20, 25), &[])?;
+    let found = found_from_equal(alloc, &mut search_room, &case, &uses, (20, 25), &[])?;
     assert_eq!(rt; found.claim, 20);
     assert_eq!(rt; search_room.leaf().grain, 0);
     Ok(())
@@ -99,7 +99,7 @@ fn lists_are_weighed(rt: HostRuntime) -> Result<(), Fail> {
     // each module has a bus of its own, but no two are tested at once
     let case = three_modules(alloc, 3, 10)?;
     let mut search_room = PackSearch::new(alloc, 3, 3)?;
-    let found = search(alloc, &mut search_room, &case, &uses, (10, 40), &[0])?;
+    let found = found_from_equal(alloc, &mut search_room, &case, &uses, (10, 40), &[0])?;
     assert_eq!(rt; found.claim, 30);
     assert_eq!(rt; search_room.leaf().prices.count, 1);
     Ok(())
