@@ -12,9 +12,12 @@ ghost use Rattle.commands.specs.TopCalls.{top_call_of};
 ghost use Rattle.all_commands.specs.Requests.{requested, fixes_text, EndsByCommand};
 ghost use Rattle.all_commands.specs.Promises.{Headline, IsQuiet, MayReport};
 
+mod limits;
+
 use bound_checker::check_bound;
 use bound_prover::prove_bound;
 use commands::{Status, TopCall, top_call};
+pub use limits::limits_are_as_written;
 use made_data::make_data;
 use outside::{Shelf, Sink};
 use plan_improver::improve;
