@@ -81,6 +81,7 @@ fn wait_more(job: &Job, missing: &mut [usize], free: &mut Vec<usize>, test: usiz
 
 /// Counts one precedence less of a test for each time that it stands in a list, and puts those that then have none left
 /// among the free tests.
+#[inline(always)]
 fn count_down(job: &Job, missing: &mut [usize], free: &mut Vec<usize>, tests: &[usize])
     requires long { length missing.old ≡ length (job_value job.now).tests }
     requires in_range { All (λ test. test < length missing.old) tests.now }
@@ -211,6 +212,7 @@ impl Prefix {
     }
 
     /// Takes the test at a place of the free ones out. It isn't appended yet.
+    #[inline(always)]
     pub(crate) fn take_out(&mut self, job: &Job, place: usize) -> TakenOut
         requires at { IsAt (job_value job.now) self.old.tests.items self.old }
         requires within { place < length self.old.free.items }
