@@ -1,12 +1,12 @@
 # How the program is proved and built. This file is taken in by `soctest` at the top of the repository, after `running.bash`.
 # shellcheck shell=bash
 
-# copies the crates of the program to a folder of their own, without the edits that the gate tries
+# copies the crates of the program to a folder of their own, without the edits that the prover has to refuse
 copy_crates() {
     local name
     mkdir "$1/crates"
     while read -r name; do
-        cp -r "$top/crates/$name" "$1/crates/" && rm -rf "$1/crates/$name/out" "$1/crates/$name/must-fail" || return
+        cp -r "$top/crates/$name" "$1/crates/" && rm -rf "$1/crates/$name"/{out,must-fail,more-edits} || return
         grep "^$name:" "$top/crates.txt" >>"$1/crates.txt"
     done < <(crates_below)
     cp "$top/HANDLES" "$1/"
