@@ -56,7 +56,7 @@ prove_all() {
 
 # Proves the crates of the program in a copy, and builds it.
 build() {
-    local folder=$top/crates/soctest_main/out log room turn teller
+    local folder=$top/crates/soctest_program/out log room turn teller
     { mkdir -p "$folder" && exec {turn}>"$folder/turn"; } || give_up "nothing can be written to $folder"
     flock "$turn"
     # (another run may have built it by now)
@@ -67,7 +67,7 @@ build() {
     (prove_all "$room") >"$log" 2>&1 </dev/null
     kill "$teller" 2>/dev/null
     wait "$teller" 2>/dev/null
-    if grep -qE '^[0-9]+ passed, 0 failed$' "$log" && mv "$room/crates/soctest_main/out/soctest_main" "$folder/built"; then
+    if grep -qE '^[0-9]+ passed, 0 failed$' "$log" && mv "$room/crates/soctest_program/out/soctest_program" "$folder/built"; then
         mv "$folder/built" "$program"
     fi
     rm -rf "$room"

@@ -42,7 +42,7 @@ install_under() {
         put "$top"/examples/[!R]* "$shared/examples" &&
         put "$parts"/*.bash "$shared/script" &&
         put "$refusals" "$top/docs/FORMATS.md" "$program" "$shared" &&
-        mv -f -- "$shared/soctest_main" "$shared/program" &&
+        mv -f -- "$shared/soctest_program" "$shared/program" &&
         show_version >"$shared/version" &&
         echo "The soctest beside this file is an installed copy, whose other files are in $shared." >"$to/bin/.soctest-installed" &&
         mkdir -p -- "$to/share/man/man1" "$to/share/bash-completion/completions" &&

@@ -21,7 +21,7 @@ crates_below() {
             for (i = 1; i <= count; i++) visit(names[i])
         }
         /^[a-z]/ { uses[$1] = $2 }
-        END { visit("soctest_main") }' "$top/crates.txt"
+        END { visit("soctest_program") }' "$top/crates.txt"
 }
 
 # whether the program has to be built: it isn't there, or a source of it is newer
@@ -75,7 +75,7 @@ run_unproved() {
     leavings+=("$room")
     say "this answer comes from a build that is NOT proved, made for this one call in a minute or two; $called build makes the proved program, once"
     hand_over "$@"
-    (cd "$top/crates/soctest_main" && rt try --seconds 300 "${handed[@]}" -- "${plain[@]}") >"$room/out" 2>"$room/told" </dev/null
+    (cd "$top/crates/soctest_program" && rt try --seconds 300 "${handed[@]}" -- "${plain[@]}") >"$room/out" 2>"$room/told" </dev/null
     told=$(tail -n 1 "$room/told")
     if [[ ! $told =~ ^run=ended\ status=([0-9]+)\ .*proved=no$ ]]; then
         cat "$room/told" >&2

@@ -5,3 +5,5 @@ pub mod Beginnings
 pub mod Wires
 pub mod Written
 pub mod Refilled
+pub mod KindTable
+pub mod Alike

@@ -7,15 +7,27 @@
 
 mod buses;
 mod chains;
+mod changes;
+mod dealing;
+mod draws;
+mod kinds;
+mod moves;
+mod pairs;
 mod problem;
+mod repair;
 mod room;
 mod scheduling;
 mod sorting;
+mod splits;
 mod times;
 
 pub use buses::Buses;
 pub use chains::{draw_too_much, set_chains};
+pub use changes::change_buses;
+pub use dealing::{DEALT_MOST, DealtModule};
+pub use draws::Draws;
 pub use problem::{TestTimes, TimedTests};
+pub use repair::fits;
 pub use room::{ScheduleRoom, zeros};
 pub use scheduling::{assign_buses, late_bus, place_order};
 pub use sorting::{Keyed, sorted_by};

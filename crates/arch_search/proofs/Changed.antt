@@ -6,7 +6,7 @@ use Rattle.resource_table.specs.Befores.{listed}
 use Rattle.resource_table.specs.Jobs.{JobValue}
 use Rattle.resource_table.specs.Schedules.{TableValue}
 use Rattle.arch_schedule.specs.declared.buses.Buses.{Buses}
-use Rattle.bus_changes.specs.declared.dealing.DealtModule.{DealtModule}
+use Rattle.arch_schedule.specs.declared.dealing.DealtModule.{DealtModule}
 use Rattle.arch_schedule.specs.declared.problem.TimedTests.{TimedTests}
 use Rattle.arch_schedule.specs.declared.room.ScheduleRoom.{ScheduleRoom}
 use Rattle.arch_search.specs.declared.setting.SearchSetting.{SearchSetting}
@@ -15,7 +15,7 @@ use Rattle.arch_schedule.specs.Problems.{IsProblem}
 use Rattle.arch_search.specs.States.{IsStateOf}
 use Rattle.arch_search.specs.Searches.{IsSearch}
 use Rattle.arch_schedule.specs.Buses.{AreBuses, AreAlike}
-use Rattle.bus_changes.specs.Dealing.{IsTaken}
+use Rattle.arch_schedule.specs.Dealing.{IsTaken}
 
 -- there is a list of what precedes it for each test
 pub before_long : (job : JobValue) (p : TimedTests) (before : List Neighbours) → before ≡ p.before.items → IsProblem job p → length before ≡ length p.tests.items

@@ -2,7 +2,7 @@
 use Rattle.std.proofs.Common.{◌≡◌, ◌∙◌, ℕ, zero, suc, ◌≤◌, Result, Ok, List, length, replicate, arith, sym, ap, subst, IfOk, All}
 use Rattle.std.proofs.lemmas.List.Elements.{All-nil, All-replicate}
 use Rattle.resource_table.specs.Schedules.{TableValue, IsSoundTable}
-use Rattle.bus_changes.specs.declared.dealing.DealtModule.{DealtModule}
+use Rattle.arch_schedule.specs.declared.dealing.DealtModule.{DealtModule}
 use Rattle.arch_schedule.specs.declared.problem.TimedTests.{TimedTests}
 use Rattle.arch_schedule.specs.declared.room.ScheduleRoom.{ScheduleRoom}
 use Rattle.arch_search.specs.declared.setting.SearchSetting.{SearchSetting}
@@ -12,7 +12,7 @@ use Rattle.arch_search.specs.States.{IsStateOf}
 use Rattle.arch_schedule.specs.Rooms.{HasRoomFor}
 use Rattle.arch_search.specs.Searches.{IsSearch}
 use Rattle.arch_search.specs.Settings.{IsSetting}
-use Rattle.bus_changes.specs.Dealing.{IsTaken}
+use Rattle.arch_schedule.specs.Dealing.{IsTaken}
 
 -- what holds of a value that was made
 pub at_ok : {A E : Type 0} (r : Result A E) (a : A) (P : A → Type 0) → IfOk r P → r ≡ Ok a → P a

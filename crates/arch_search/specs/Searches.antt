@@ -5,12 +5,12 @@ use Rattle.plan_model.specs.declared.TheConstants.{START_MOST}
 use Rattle.resource_table.specs.Schedules.{TableValue, IsSoundTable}
 use Rattle.arch_schedule.specs.declared.room.ScheduleRoom.{ScheduleRoom}
 use Rattle.arch_search.specs.declared.search.Found.{Found}
-use Rattle.bus_changes.specs.declared.dealing.DealtModule.{DealtModule}
+use Rattle.arch_schedule.specs.declared.dealing.DealtModule.{DealtModule}
 use Rattle.arch_search.specs.declared.setting.SearchSetting.{SearchSetting}
 use Rattle.arch_search.specs.declared.state.State.{State}
 use Rattle.arch_schedule.specs.Problems.{IsProblem}
 use Rattle.arch_search.specs.States.{IsStateOf}
-use Rattle.bus_changes.specs.Dealing.{IsTaken}
+use Rattle.arch_schedule.specs.Dealing.{IsTaken}
 use Rattle.arch_search.specs.Settings.{IsSetting}
 use Rattle.arch_schedule.specs.Rooms.{HasRoomFor}
 

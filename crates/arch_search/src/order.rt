@@ -2,7 +2,7 @@
 ghost use Rattle.std.specs.Prelude.{◌≡◌, ℕ, ◌<◌, ◌≤◌, length, IfSome};
 ghost use Rattle.std.specs.List.{All};
 
-use bus_changes::Draws;
+use arch_schedule::Draws;
 use live_tests::Neighbours;
 use resource_table::earlier_than;
 

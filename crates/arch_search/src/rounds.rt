@@ -2,7 +2,7 @@
 //! may make it somewhat worse, the less the later in the round. Each round has twice as many tries as the one before it.
 ghost use Rattle.std.specs.Prelude.{◌<◌};
 
-use bus_changes::Draws;
+use arch_schedule::Draws;
 
 /// The first tries may make nothing worse: this many, or more where there are many tests.
 const FIRST_DESCENT: u64 = 2_000;

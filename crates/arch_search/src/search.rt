@@ -5,15 +5,16 @@ ghost use Rattle.resource_table.specs.Jobs.{JobValue, job_value, IsSoundJob};
 ghost use Rattle.arch_schedule.specs.Problems.{IsProblem};
 ghost use Rattle.arch_search.specs.States.{IsStateOf};
 ghost use Rattle.arch_search.specs.Searches.{IsLent};
-ghost use Rattle.bus_changes.specs.Dealing.{IsTaken};
+ghost use Rattle.arch_schedule.specs.Dealing.{IsTaken};
 
 use crate::order::{change_order, reorder_tests};
 use crate::rounds::{NextTry, Rounds, drawn_most};
 use crate::setting::SearchSetting;
 use crate::state::{State, first_state};
 use crate::weighing::{schedule_state, weigh_state};
-use arch_schedule::{ScheduleRoom, TimedTests, zeros};
-use bus_changes::{DEALT_MOST, DealtModule, Draws, change_buses, fits};
+use arch_schedule::{
+    DEALT_MOST, DealtModule, Draws, ScheduleRoom, TimedTests, change_buses, fits, zeros,
+};
 use live_tests::LiveTests;
 use outside::{NoMemory, both};
 use plan_model::Plan;

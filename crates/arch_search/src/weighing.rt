@@ -12,9 +12,9 @@ use crate::order::advance_drawn;
 use crate::setting::SearchSetting;
 use crate::state::State;
 use arch_schedule::{
-    Buses, ScheduleRoom, TimedTests, assign_buses, draw_too_much, late_bus, place_order, set_chains,
+    Buses, Draws, ScheduleRoom, TimedTests, assign_buses, draw_too_much, late_bus, place_order,
+    set_chains,
 };
-use bus_changes::Draws;
 use plan_model::START_MOST;
 use resource_table::OwnTable;
 use std::mem;

@@ -1,4 +1,4 @@
-pub mod Answering
 pub mod EqualLists
+pub mod Kept
 pub mod Nothing
 pub mod Printing

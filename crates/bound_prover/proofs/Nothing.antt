@@ -4,7 +4,7 @@ use Rattle.std.proofs.lemmas.List.Elements.{All-nil}
 use Rattle.soc_model.specs.Chips.{SocValue}
 use Rattle.plan_model.specs.Plans.{LimitsValue}
 use Rattle.plan_model.specs.SoundLimits.{IsSoundLimits}
-use Rattle.proof_model.specs.Proofs.{WeightsValue, Leaf, OfSum, OfLeaf}
+use Rattle.plan_model.specs.Proofs.{WeightsValue, Leaf, OfSum, OfLeaf}
 use Rattle.leaf_bounds.specs.Cases.{root_case, tightened}
 use Rattle.leaf_bounds.specs.Leaves.{IsKnownList, worth_of_cycle, LeafHolds}
 use Rattle.bus_proofs.specs.Cases.{NodeCase, in_case, cases_of}

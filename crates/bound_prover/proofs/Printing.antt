@@ -4,12 +4,12 @@ use Rattle.std.specs.Global.{Vec}
 use Rattle.std.proofs.lemmas.List.Elements.{All-cons, All-nil}
 use Rattle.std.proofs.lemmas.Fmt.{decimal_digit}
 use Rattle.outside.specs.declared.NoMemory.{NoMemory}
-use Rattle.proof_model.specs.declared.Proof.{Proof}
-use Rattle.proof_model.specs.declared.Weights.{Weights}
-use Rattle.proof_model.specs.declared.Node.TheVariants.{Sum}
-use Rattle.proof_model.specs.Proofs.{OfSum, OfLeaf, ProofValue, Leaf, proof_value}
+use Rattle.plan_model.specs.declared.proof.Proof.{Proof}
+use Rattle.plan_model.specs.declared.proof.Weights.{Weights}
+use Rattle.plan_model.specs.declared.proof.Node.TheVariants.{Sum}
+use Rattle.plan_model.specs.Proofs.{OfSum, OfLeaf, ProofValue, Leaf, proof_value}
 use Rattle.proof_text.specs.ProofLines.{proof_text, proof_tokens}
-use Rattle.proof_model.specs.Sayable.{NamesTests, IsWeight, IsUse, HasWeights}
+use Rattle.plan_model.specs.Sayable.{NamesTests, IsWeight, IsUse, HasWeights}
 use Rattle.proof_text.specs.Grammar.{IsInRange}
 use Rattle.proof_text.specs.Answers.{IsReadAgain}
 use Rattle.proof_text.proofs.PrintedProofs.{printed_is_read}

@@ -1,4 +1,4 @@
-pub mod Headlines
-pub mod Reports
+pub mod Procedures
+pub mod Promises
 pub mod Proved
-pub mod Requests
+pub mod Reports

@@ -2,9 +2,9 @@
 use Rattle.std.specs.Prelude.{◌≡◌, ℕ, ◌≤◌, List, [], ◌∷◌, length}
 use Rattle.soc_model.specs.Chips.{SocValue}
 use Rattle.plan_model.specs.Plans.{LimitsValue}
-use Rattle.proof_model.specs.Proofs.{OfSum, OfLeaf, ProofValue}
+use Rattle.plan_model.specs.Proofs.{OfSum, OfLeaf, ProofValue}
 use Rattle.proof_text.specs.ProofLines.{proof_text}
-use Rattle.proof_model.specs.Sayable.{MayBeSaid}
+use Rattle.plan_model.specs.Sayable.{MayBeSaid}
 use Rattle.proof_text.specs.Grammar.{IsInRange}
 use Rattle.proof_text.specs.Answers.{SaysProof}
 use Rattle.bus_proofs.specs.Bounds.{IsAccepted}

@@ -1,7 +1,7 @@
--- What is reported of a search, line by line.
-use Rattle.std.specs.Prelude.{◌≡◌, ℕ, ◌≤◌, ◌⊎◌, List, Option, Some, codes}
-use Rattle.commands.specs.Commands.{CommandValue, Prove}
+-- What is reported of a search, line by line, and when nothing is.
+use Rattle.std.specs.Prelude.{◌≡◌, ℕ, ◌<◌, ◌≤◌, ◌⊎◌, List, Option, codes}
 use Rattle.commands.specs.Progress.{MayAdd, MayReport as MayReportAny, reported_line}
+use Rattle.bound_prover.specs.declared.progress.TheConstants.{REPORTED_FROM}
 
 -- nothing is added, or the line of the nodes that were made, at least `reached`, and of the claim so far
 abbrev pub MayPass : (reached : ℕ) → (old new : Option (List ℕ)) → Type 0
@@ -12,7 +12,6 @@ MayPass reached old new =
 abbrev pub MayReport : (nodes : ℕ) → (old new : Option (List ℕ)) → Type 0
 MayReport nodes old new = MayReportAny MayPass nodes old new
 
--- and so for what the words ask for
-abbrev pub MayReportOf : Option CommandValue → (old new : Option (List ℕ)) → Type 0
-MayReportOf (Some (Prove soc limits plan nodes)) old new = MayReport nodes old new
-MayReportOf other old new = new ≡ old
+-- nothing is reported of few nodes
+abbrev pub IsQuiet : (nodes : ℕ) → Type 0
+IsQuiet nodes = nodes < REPORTED_FROM

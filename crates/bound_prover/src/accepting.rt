@@ -1,7 +1,7 @@
 //! The text of a proof that was found, where it is accepted.
 ghost use Rattle.std.specs.Prelude.{◌≡◌, ◌≤◌, true, IfOk, IfSome};
-ghost use Rattle.proof_model.specs.Proofs.{proof_value};
-ghost use Rattle.proof_model.specs.Sayable.{MayBeSaid};
+ghost use Rattle.plan_model.specs.Proofs.{proof_value};
+ghost use Rattle.plan_model.specs.Sayable.{MayBeSaid};
 ghost use Rattle.bus_proofs.specs.Bounds.{IsAccepted};
 ghost use Rattle.proof_text.specs.ProofLines.{proof_text};
 ghost use Rattle.bound_prover.specs.Proved.{IsPrinted, IsProofText, IsReadable, no_claim};
@@ -12,7 +12,7 @@ use bus_proofs::{ProofRoom, check_proof};
 use commands::FILE_MOST;
 use live_tests::Problem;
 use outside::{NoMemory, push};
-use proof_model::{Node, Proof, Weights};
+use plan_model::{Node, Proof, Weights};
 use proof_text::{ProofTextFault, print_proof, read_proof};
 use std::alloc::Global;
 

@@ -1,10 +1,10 @@
 //! A proof that was found, and the better of two.
 ghost use Rattle.std.specs.Prelude.{◌≡◌, IfOk};
-ghost use Rattle.proof_model.specs.Proofs.{proof_value};
+ghost use Rattle.plan_model.specs.Proofs.{proof_value};
 ghost use Rattle.proof_text.specs.ProofLines.{proof_text};
 
 use outside::{NoMemory, both};
-use proof_model::Proof;
+use plan_model::Proof;
 use proof_text::print_proof;
 use std::alloc::Global;
 use std::marker::Model;
@@ -18,7 +18,7 @@ pub(crate) struct FoundProof {
 
 impl Model for FoundProof {
     ghost use Rattle.std.specs.Prelude.{◌≡◌};
-    ghost use Rattle.proof_model.specs.Proofs.{ProofValue, proof_value};
+    ghost use Rattle.plan_model.specs.Proofs.{ProofValue, proof_value};
     ghost use Rattle.proof_text.specs.ProofLines.{proof_text};
 
     ghost Value = { ProofValue };

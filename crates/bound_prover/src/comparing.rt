@@ -1,8 +1,8 @@
 //! Whether two proofs say the same.
 ghost use Rattle.std.specs.Prelude.{◌≡◌, true, map};
-ghost use Rattle.proof_model.specs.Proofs.{list_value, node_value, pricing_value, proof_value, weights_value};
+ghost use Rattle.plan_model.specs.Proofs.{list_value, node_value, pricing_value, proof_value, weights_value};
 
-use proof_model::{Node, Pricing, Proof, TestList, Weights};
+use plan_model::{Node, Pricing, Proof, TestList, Weights};
 use soc_model::TestId;
 
 /// Whether two lists have equal numbers.

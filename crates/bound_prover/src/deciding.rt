@@ -1,19 +1,14 @@
-//! Decides how a call ends before anything is written.
-ghost use Rattle.std.specs.Prelude.{◌≡◌, ◌<◌, ◌≤◌, map, string_bytes, IfOk};
-ghost use Rattle.commands.specs.Commands.{Prove, command_of as asked_command};
-ghost use Rattle.commands.specs.Procedures.{asked};
-ghost use Rattle.commands.specs.Decides.{Follows, Decides};
-ghost use Rattle.commands.specs.Ends.{IsCommand};
+//! Decides how `prove` ends before anything is written.
+ghost use Rattle.std.specs.Prelude.{◌≡◌, ◌<◌, ◌≤◌, IfOk};
+ghost use Rattle.commands.specs.Decides.{Follows};
 ghost use Rattle.commands.specs.Loads.{LoadsGive};
 ghost use Rattle.bound_prover.specs.declared.progress.TheConstants.{REPORTED_FROM};
 ghost use Rattle.bound_prover.specs.Proved.{IsProofText};
-ghost use Rattle.bound_prover.specs.Requests.{procedure_of, IsQuiet};
-ghost use Rattle.bound_prover.specs.Reports.{MayReport, MayReportOf};
+ghost use Rattle.bound_prover.specs.Procedures.{prove_procedure};
+ghost use Rattle.bound_prover.specs.Reports.{IsQuiet, MayReport};
 
 use crate::proving::proved_text;
-use commands::{
-    Accepted, Command, Status, Verdict, answered_with, bad_words, command_of, load_all,
-};
+use commands::{Accepted, Status, Verdict, answered_with, load_all};
 use outside::{NoMemory, Shelf, Sink};
 use std::alloc::Global;
 
@@ -35,8 +30,10 @@ fn proof_text_for<T: Sink>(
     proved_text(alloc, &all.problem(), cycles, nodes, progress)
 }
 
-/// `prove SOC LIMITS PLAN NODES`: a proof of a bound of at most the cycles of a plan that is accepted.
-fn decide_prove<H: Shelf, T: Sink>(
+/// `prove SOC LIMITS PLAN NODES`: a proof of a bound of at most the cycles of a plan that is accepted. From 10,000 nodes on each tenth
+/// of them that was made is reported to `progress`, with the claim so far, and for fewer nothing; what becomes of that changes nothing
+/// else.
+pub fn decide_prove<H: Shelf, T: Sink>(
     alloc: Global,
     soc: &str,
     limits: &str,
@@ -49,11 +46,11 @@ fn decide_prove<H: Shelf, T: Sink>(
     ensures held_stays { H.held shelf.new ≡ H.held shelf.old }
     ensures faults_never_fall { H.faults shelf.old ≤ H.faults shelf.new }
     ensures progress_faults_never_fall { T.faults progress.old ≤ T.faults progress.new }
-    ensures follows { Follows (procedure_of (Prove soc.now limits.now plan.now nodes))
+    ensures follows { Follows (prove_procedure soc.now limits.now plan.now nodes)
         (H.held shelf.old) (H.faults shelf.old) (H.faults shelf.new) result }
-    ensures by_loads { LoadsGive H.is_load (procedure_of (Prove soc.now limits.now plan.now nodes))
+    ensures by_loads { LoadsGive H.is_load (prove_procedure soc.now limits.now plan.now nodes)
         shelf.old result shelf.new }
-    ensures quiet { nodes < REPORTED_FROM → progress.new ≡ progress.old }
+    ensures quiet { IsQuiet nodes → progress.new ≡ progress.old }
     ensures reported { MayReport nodes (T.written progress.old) (T.written progress.new) }
 {
     match load_all(alloc, soc, limits, plan, shelf) {
@@ -63,41 +60,5 @@ fn decide_prove<H: Shelf, T: Sink>(
             answered_with(Status::Done, text)
         }
         Err(verdict) => verdict,
-    }
-}
-
-/// Decides how the call of these words ends. Words that are no `prove` leave the shelf untouched.
-pub(crate) fn decide<H: Shelf, T: Sink>(
-    alloc: Global,
-    words: &[String],
-    shelf: &mut H,
-    progress: &mut T,
-) -> Verdict
-    ensures held_stays { H.held shelf.new ≡ H.held shelf.old }
-    ensures faults_never_fall { H.faults shelf.old ≤ H.faults shelf.new }
-    ensures progress_faults_never_fall { T.faults progress.old ≤ T.faults progress.new }
-    ensures decides { Decides (asked procedure_of (asked_command (map string_bytes words.now)))
-        (H.held shelf.old) (H.faults shelf.old) (H.faults shelf.new) result }
-    ensures by_loads { LoadsGive H.is_load
-        (asked procedure_of (asked_command (map string_bytes words.now)))
-        shelf.old result shelf.new }
-    ensures untouched { (IsCommand
-        (asked procedure_of (asked_command (map string_bytes words.now))) → ⊥) →
-        shelf.new ≡ shelf.old }
-    ensures quiet { IsQuiet (asked_command (map string_bytes words.now)) →
-        progress.new ≡ progress.old }
-    ensures reported { MayReportOf (asked_command (map string_bytes words.now))
-        (T.written progress.old) (T.written progress.new) }
-{
-    match command_of(words) {
-        Some(
-            Command::Prove {
-                soc,
-                limits,
-                plan,
-                nodes,
-            },
-        ) => decide_prove(alloc, soc, limits, plan, nodes, shelf, progress),
-        _ => bad_words(alloc),
     }
 }

@@ -1,7 +1,5 @@
-//! The top call of `prove`, which looks for a proof of a bound by cases on buses and writes it, beside that of the eleven
-//! commands. Nothing is believed of what the search finds: its text is read and checked before it is written.
-//!
-//! The program over real files, standard output and standard error is `soctest_main`.
+//! Proofs of bounds by cases on buses: the command `prove` looks for one, decided here before anything is written. Nothing is believed
+//! of what the search finds: its text is read and checked before it is answered.
 #![tactic(auto)]
 
 mod accepting;
@@ -10,7 +8,6 @@ mod comparing;
 mod deciding;
 mod progress;
 mod proving;
-mod top;
 
+pub use deciding::decide_prove;
 pub use proving::{proved, proved_text};
-pub use top::prove_bound;

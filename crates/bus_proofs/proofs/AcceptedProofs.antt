@@ -11,8 +11,8 @@ use Rattle.plan_model.proofs.PlannedTests.{Origin}
 use Rattle.plan_model.proofs.PowerAndAreaBounds.{planned_bus_width, some_width}
 use Rattle.plan_model.proofs.TurnBounds.{plan_of}
 use Rattle.live_tests.proofs.Placing.{in_live}
-use Rattle.packed_times.specs.Packed.{packed_time}
-use Rattle.exclusions.specs.Exclusions.{Excludes, excludes, least_power}
+use Rattle.proof_facts.specs.Packed.{packed_time}
+use Rattle.proof_facts.specs.Exclusions.{Excludes, excludes, least_power}
 use Rattle.leaf_bounds.specs.Cases.{root_case, Case}
 use Rattle.bus_proofs.specs.Cases.{NodeCase}
 use Rattle.bus_proofs.specs.Laws.{AcceptedCasesHaveNoPlan, AcceptedProofsAreBounds, NodesTellTheTree, ProofsHaveOneFault, AcceptedProofsHaveNoFault, LessShowsLess}
@@ -21,7 +21,7 @@ use Rattle.bus_proofs.proofs.LeafBounds.{IsTimed, SomeWire}
 use Rattle.bus_proofs.proofs.PackBounds.{leaves_none}
 use Rattle.bus_proofs.proofs.Rankings.{plans_have_rankings, by_ranks, root_in, tree_none}
 use Rattle.common_lemmas.proofs.Lists.{any_at, in_filter}
-use Rattle.proof_model.specs.Proofs.{NodeValue, CaseTree, Leaf, Branches, nodes_of, ListValue, LeafValue, OfLeaf, OfSum, OfPack, ProofValue}
+use Rattle.plan_model.specs.Proofs.{NodeValue, CaseTree, Leaf, Branches, nodes_of, ListValue, LeafValue, OfLeaf, OfSum, OfPack, ProofValue}
 use Rattle.bus_proofs.specs.declared.ProofFault.{ProofFault}
 use Rattle.bus_proofs.specs.declared.ProofFault.TheVariants.{BadList, BadNode, Less}
 use Rattle.plan_model.proofs.LowerTimes.{quotient_up-le}

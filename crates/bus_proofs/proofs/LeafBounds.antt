@@ -16,8 +16,8 @@ use Rattle.plan_model.proofs.PowerAndAreaBounds.{bus_width}
 use Rattle.plan_model.proofs.Sums.{sum_by-le_at, sum_by-times}
 use Rattle.plan_model.proofs.SumsOverCycles.{sum_below-add, sum_below-le_by}
 use Rattle.plan_model.proofs.TurnBounds.{plan_of}
-use Rattle.packed_times.specs.Packed.{packed_time, packed_tam_time, self_test_time}
-use Rattle.proof_model.specs.Proofs.{ListValue, OfTurns, OfTurnsOn, OfCrowd, OfPower, WeightsValue}
+use Rattle.proof_facts.specs.Packed.{packed_time, packed_tam_time, self_test_time}
+use Rattle.plan_model.specs.Proofs.{ListValue, OfTurns, OfTurnsOn, OfCrowd, OfPower, WeightsValue}
 use Rattle.leaf_bounds.specs.Cases.{Case, known_ranks, spare, IsEmpty}
 use Rattle.leaf_bounds.specs.Lists.{KeepsList, room_of, use_of, is_among, excludes_all, AreKept}
 use Rattle.leaf_bounds.specs.Leaves.{IsSum, LeafHolds, Slot, slot, is_short, all_slots, slots_of, is_rank, module_use, self_use, weighed, cost, least_cost, cost_of_all, worth_of_cycle}

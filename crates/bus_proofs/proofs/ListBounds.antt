@@ -17,11 +17,11 @@ use Rattle.soc_model.specs.SoundChips.{IsSoundChip}
 use Rattle.plan_model.proofs.CertificatesAreBounds.{same_test_is}
 use Rattle.plan_model.proofs.Lists.{at_contains}
 use Rattle.plan_model.proofs.TestsInGoodPlans.{planned_tam}
-use Rattle.exclusions.specs.Exclusions.{excludes, least_power}
+use Rattle.proof_facts.specs.Exclusions.{excludes, least_power}
 use Rattle.leaf_bounds.specs.Lists.{is_among, names_exclude, IsTurn, excludes_all, is_beside, least_together, least_power_of, IsCrowd, counted, power_use, IsNear}
 use Rattle.common_lemmas.proofs.Lists.{any_at, sum_map}
-use Rattle.packed_times.specs.Packed.{rising}
-use Rattle.packed_times.proofs.Rising.{AllAtLeast, Rises, rising-rises, sum_by-rising, length-rising}
+use Rattle.proof_facts.specs.Packed.{rising}
+use Rattle.proof_facts.proofs.Rising.{AllAtLeast, Rises, rising-rises, sum_by-rising, length-rising}
 use Rattle.std.proofs.lemmas.List.{length-map}
 use Rattle.plan_model.specs.Certificates.{is_called}
 use Rattle.leaf_bounds.proofs.TestNames.{one_place, place_is}

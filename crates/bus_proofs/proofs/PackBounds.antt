@@ -13,9 +13,9 @@ use Rattle.plan_model.specs.Bounds.{sum_below, is_of}
 use Rattle.plan_model.specs.Certificates.{has_tam_at}
 use Rattle.plan_model.proofs.Sums.{sum_by-le_at}
 use Rattle.plan_model.proofs.SumsOverCycles.{sum_below-same, sum_below-add, sum_below-le_by, le-indicator, sum_below-indices}
-use Rattle.packed_times.specs.Packed.{packed_time, packed_tam_time, self_test_time}
+use Rattle.proof_facts.specs.Packed.{packed_time, packed_tam_time, self_test_time}
 use Rattle.pack_leaves.proofs.Sums.{sum_next, sum_none}
-use Rattle.proof_model.specs.Proofs.{ListValue, PricingValue, OfSum, OfPack}
+use Rattle.plan_model.specs.Proofs.{ListValue, PricingValue, OfSum, OfPack}
 use Rattle.leaf_bounds.specs.Cases.{Case, known_ranks}
 use Rattle.leaf_bounds.specs.Lists.{room_of, AreKept}
 use Rattle.leaf_bounds.specs.Leaves.{weighed}

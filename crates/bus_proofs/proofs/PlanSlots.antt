@@ -7,7 +7,7 @@ use Rattle.plan_model.specs.Bounds.{sum_below, is_of}
 use Rattle.plan_model.specs.Certificates.{on}
 use Rattle.plan_model.proofs.Sums.{sum_by-le_at, sum_by-times}
 use Rattle.plan_model.proofs.SumsOverCycles.{sum_below-add, sum_below-sum_by, sum_below-le_by, sum_below-zero, indicator-le, le-indicator}
-use Rattle.proof_model.specs.Proofs.{ListValue, WeightsValue}
+use Rattle.plan_model.specs.Proofs.{ListValue, WeightsValue}
 use Rattle.leaf_bounds.specs.Cases.{Case, low_at, spare, known_ranks, interval}
 use Rattle.leaf_bounds.specs.Leaves.{rank_weight, weighed, slot, rest_high}
 use Rattle.bus_proofs.proofs.Intervals.{AreLows, beyond_lows, Fits, AreHighs, Falls, falls_far, term-le, lows-le}

@@ -5,16 +5,16 @@ use Rattle.std.proofs.lemmas.Option.{slice_get-map, slice_get_read, slice_get_wi
 use Rattle.soc_model.specs.Chips.{SocValue}
 use Rattle.plan_model.specs.Plans.{LimitsValue}
 use Rattle.plan_model.specs.Rules.{IsBound}
-use Rattle.proof_model.specs.declared.Node.{Node}
+use Rattle.plan_model.specs.declared.proof.Node.{Node}
 use Rattle.bus_proofs.specs.declared.ProofFault.{ProofFault}
 use Rattle.bus_proofs.specs.declared.ProofFault.TheVariants.{BadList, BadNode, Less}
 use Rattle.leaf_bounds.specs.declared.basis.Basis.{Basis}
 use Rattle.leaf_bounds.specs.declared.case.CaseRoom.{CaseRoom}
 use Rattle.leaf_bounds.specs.declared.leaf.LeafRoom.{LeafRoom}
 use Rattle.bus_proofs.specs.declared.walk.OpenSplit.{OpenSplit}
-use Rattle.proof_model.specs.Proofs.{ListValue, LeafValue, OfLeaf, CaseTree, nodes_of, node_value, ProofValue}
+use Rattle.plan_model.specs.Proofs.{ListValue, LeafValue, OfLeaf, CaseTree, nodes_of, node_value, ProofValue}
 use Rattle.leaf_bounds.specs.Cases.{root_case}
-use Rattle.proof_model.specs.Sayable.{MayBeSaid}
+use Rattle.plan_model.specs.Sayable.{MayBeSaid}
 use Rattle.leaf_bounds.specs.Lists.{AreKept}
 use Rattle.bus_proofs.specs.Bounds.{IsAccepted, IsProofFault, all_cases}
 use Rattle.leaf_bounds.specs.ListTables.{KeepFirst}

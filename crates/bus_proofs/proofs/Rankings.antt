@@ -10,7 +10,7 @@ use Rattle.plan_model.specs.Certificates.{has_tam_at, on, passes}
 use Rattle.plan_model.proofs.CertificatesAreBounds.{place_or, some_place}
 use Rattle.plan_model.proofs.Lists.{at_contains, in_append_right, from_flat_map, any_from}
 use Rattle.plan_model.proofs.PowerAndAreaBounds.{bus_width, widths_fit}
-use Rattle.proof_model.specs.Proofs.{ListValue, LeafValue, SplitValue, OfWide, OfPlace, OfSplit, OfLeaf, CaseTree, Leaf, Branches}
+use Rattle.plan_model.specs.Proofs.{ListValue, LeafValue, SplitValue, OfWide, OfPlace, OfSplit, OfLeaf, CaseTree, Leaf, Branches}
 use Rattle.leaf_bounds.specs.Cases.{Case, known_ranks, tightened, narrow, wide, placed_on, placed_off, root_case}
 use Rattle.bus_proofs.specs.Cases.{with_rank, case_by, first_case, second_case, NodeCase, in_case, cases_of, AreTwins, KeepsSplit}
 use Rattle.leaf_bounds.specs.AnyLeaves.{AnyLeafHolds, KeepsLeaf}

@@ -1,7 +1,7 @@
 -- The cases of a tree's nodes computed on a small chip, against values that were found by hand.
 use Rattle.std.proofs.Common.{◌≡◌, ℕ, false, List, [], ◌∷◌, map, refl}
 use Rattle.soc_model.specs.Chips.{ModuleValue, SocValue}
-use Rattle.proof_model.specs.Proofs.{WeightsValue, OfSum, OfWide, OfPlace, CaseTree, Leaf, Branches}
+use Rattle.plan_model.specs.Proofs.{WeightsValue, OfSum, OfWide, OfPlace, CaseTree, Leaf, Branches}
 use Rattle.leaf_bounds.specs.Cases.{interval, root_case}
 use Rattle.bus_proofs.specs.Cases.{NodeCase, cases_of}
 

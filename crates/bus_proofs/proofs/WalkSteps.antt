@@ -12,7 +12,7 @@ use Rattle.leaf_bounds.specs.declared.basis.Basis.{Basis}
 use Rattle.leaf_bounds.specs.declared.case.CaseRoom.{CaseRoom}
 use Rattle.leaf_bounds.specs.declared.case.Mark.{Mark}
 use Rattle.bus_proofs.specs.declared.walk.OpenSplit.{OpenSplit}
-use Rattle.proof_model.specs.Proofs.{LeafValue, SplitValue, OfWide, OfPlace, NodeValue, OfSplit, OfLeaf, CaseTree, Leaf, Branches, nodes_of}
+use Rattle.plan_model.specs.Proofs.{LeafValue, SplitValue, OfWide, OfPlace, NodeValue, OfSplit, OfLeaf, CaseTree, Leaf, Branches, nodes_of}
 use Rattle.leaf_bounds.specs.Cases.{Case, interval_of, known_ranks, narrow, placed_on, tightened, root_case}
 use Rattle.bus_proofs.specs.Cases.{with_rank, case_by, first_case, second_case, NodeCase, in_case, cases_of, KeepsSplit}
 use Rattle.bus_proofs.specs.Bounds.{HasFault, KeepsNode, NodeHolds, all_cases, work_of_all}

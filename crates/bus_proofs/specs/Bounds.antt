@@ -6,7 +6,7 @@ use Rattle.plan_model.specs.Plans.{LimitsValue}
 use Rattle.plan_model.specs.Rules.{Each, IsFirstBreach}
 use Rattle.bus_proofs.specs.declared.ProofFault.{ProofFault}
 use Rattle.bus_proofs.specs.declared.ProofFault.TheVariants.{BadList, BadNode, Less}
-use Rattle.proof_model.specs.Proofs.{ListValue, LeafValue, OfSum, OfPack, NodeValue, OfSplit, OfLeaf, CaseTree, nodes_of, ProofValue}
+use Rattle.plan_model.specs.Proofs.{ListValue, LeafValue, OfSum, OfPack, NodeValue, OfSplit, OfLeaf, CaseTree, nodes_of, ProofValue}
 use Rattle.leaf_bounds.specs.Cases.{Case, root_case}
 use Rattle.bus_proofs.specs.Cases.{NodeCase, cases_of, KeepsSplit}
 use Rattle.leaf_bounds.specs.PackLeaves.{pack_work}

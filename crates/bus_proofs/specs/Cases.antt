@@ -5,7 +5,7 @@ use Rattle.soc_model.specs.Chips.{SocValue}
 use Rattle.soc_model.specs.Lookups.{module_place}
 use Rattle.soc_model.specs.SoundChips.{AllDiffer}
 use Rattle.plan_model.specs.Certificates.{has_tam_at, HasTamTest}
-use Rattle.proof_model.specs.Proofs.{SplitValue, OfWide, OfPlace, NodeValue, OfSplit, OfLeaf, CaseTree, Leaf, Branches}
+use Rattle.plan_model.specs.Proofs.{SplitValue, OfWide, OfPlace, NodeValue, OfSplit, OfLeaf, CaseTree, Leaf, Branches}
 use Rattle.leaf_bounds.specs.Cases.{Case, extended, high_at, known_ranks, low_at, narrow, placed_off, placed_on, tightened, wide}
 
 -- the case that has the rank: a further one comes first where it is the first of the rest

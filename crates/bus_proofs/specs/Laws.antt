@@ -7,7 +7,7 @@ use Rattle.plan_model.specs.Rules.{IsGood, IsBound}
 use Rattle.plan_model.specs.SoundLimits.{IsSoundLimits}
 use Rattle.bus_proofs.specs.declared.ProofFault.{ProofFault}
 use Rattle.bus_proofs.specs.declared.ProofFault.TheVariants.{Less}
-use Rattle.proof_model.specs.Proofs.{ListValue, CaseTree, nodes_of, ProofValue}
+use Rattle.plan_model.specs.Proofs.{ListValue, CaseTree, nodes_of, ProofValue}
 use Rattle.leaf_bounds.specs.Cases.{Case}
 use Rattle.bus_proofs.specs.Cases.{cases_of}
 use Rattle.bus_proofs.specs.Rankings.{IsRanking, IsInCase}

@@ -6,9 +6,9 @@ use Rattle.leaf_bounds.specs.declared.basis.Basis.{Basis}
 use Rattle.leaf_bounds.specs.declared.case.CaseRoom.{CaseRoom}
 use Rattle.leaf_bounds.specs.declared.leaf.LeafRoom.{LeafRoom}
 use Rattle.bus_proofs.specs.declared.walk.OpenSplit.{OpenSplit}
-use Rattle.proof_model.specs.Proofs.{ProofValue}
+use Rattle.plan_model.specs.Proofs.{ProofValue}
 use Rattle.leaf_bounds.specs.Cases.{root_case}
-use Rattle.proof_model.specs.Sayable.{MayBeSaid}
+use Rattle.plan_model.specs.Sayable.{MayBeSaid}
 use Rattle.leaf_bounds.specs.Bases.{IsBasis, proof_of}
 use Rattle.leaf_bounds.specs.CaseRooms.{IsCaseOf}
 use Rattle.bus_proofs.specs.Walks.{IsRoomFor, FitsLeaves}

@@ -11,7 +11,7 @@ use Rattle.leaf_bounds.specs.declared.basis.Basis.{Basis}
 use Rattle.leaf_bounds.specs.declared.case.CaseRoom.{CaseRoom}
 use Rattle.leaf_bounds.specs.declared.leaf.LeafRoom.{LeafRoom}
 use Rattle.bus_proofs.specs.declared.walk.OpenSplit.{OpenSplit}
-use Rattle.proof_model.specs.Proofs.{LeafValue, OfSum, OfPack, SplitValue, OfWide, OfPlace, NodeValue, OfSplit, OfLeaf, CaseTree}
+use Rattle.plan_model.specs.Proofs.{LeafValue, OfSum, OfPack, SplitValue, OfWide, OfPlace, NodeValue, OfSplit, OfLeaf, CaseTree}
 use Rattle.leaf_bounds.specs.Cases.{Case, known_ranks, wide, placed_off}
 use Rattle.bus_proofs.specs.Cases.{with_rank, case_by, first_case, second_case, NodeCase, cases_of, IsWide, IsPlace, KeepsSplit}
 use Rattle.bus_proofs.specs.Bounds.{AreEnough, HasFault, IsEnough, KeepsNode, work_of_node}

@@ -1,8 +1,9 @@
 //! What an accepted proof tells. Each law is the contract of a function that does nothing: a caller learns it by the call.
 ghost use Rattle.bus_proofs.specs.Laws.{PlansHaveRankings, AcceptedCasesHaveNoPlan, AcceptedProofsAreBounds, NodesTellTheTree, ProofsHaveOneFault, AcceptedProofsHaveNoFault, LessShowsLess};
 
-use exclusions::{exclusions_are_decided, exclusions_hold, least_powers_are_drawn};
-use packed_times::planned_tests_are_packed;
+use proof_facts::{
+    exclusions_are_decided, exclusions_hold, least_powers_are_drawn, planned_tests_are_packed,
+};
 
 /// The buses of every plan have a ranking by their widths.
 pub fn plans_have_rankings()

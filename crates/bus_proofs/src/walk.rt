@@ -3,10 +3,10 @@
 ghost use Rattle.std.specs.Prelude.{◌≡◌, ◌+◌, ◌<◌, ◌≤◌, ℕ, true, false, Some, List, IfOk, OnOk, length, slice_get, slice_set};
 ghost use Rattle.leaf_bounds.specs.declared.case.CaseRoom.{CaseRoom};
 ghost use Rattle.leaf_bounds.specs.declared.basis.Basis.{Basis};
-ghost use Rattle.proof_model.specs.Proofs.{LeafValue, SplitValue, OfWide, OfPlace, OfSplit, OfSum, OfPack, OfLeaf, CaseTree, node_value, nodes_of, proof_value, pricing_value, weights_value};
+ghost use Rattle.plan_model.specs.Proofs.{LeafValue, SplitValue, OfWide, OfPlace, OfSplit, OfSum, OfPack, OfLeaf, CaseTree, node_value, nodes_of, proof_value, pricing_value, weights_value};
 ghost use Rattle.leaf_bounds.specs.Cases.{Case, root_case};
 ghost use Rattle.bus_proofs.specs.Cases.{IsPlace, IsWide, NodeCase, in_case};
-ghost use Rattle.proof_model.specs.Sayable.{MayBeSaid};
+ghost use Rattle.plan_model.specs.Sayable.{MayBeSaid};
 ghost use Rattle.bus_proofs.specs.Bounds.{all_cases};
 ghost use Rattle.leaf_bounds.specs.CaseRooms.{IsCaseOf, IsFurther};
 ghost use Rattle.leaf_bounds.specs.Bases.{IsBasis, AllKept, chip_of, limits_of, claim_of, proof_of};
@@ -16,7 +16,7 @@ ghost use Rattle.bus_proofs.specs.Walks.{Awaits, FitsLeaves, GoesOn, IsAt, IsBeg
 use crate::ProofFault;
 use crate::nodes::{is_wide, placed};
 use leaf_bounds::{Basis, CaseRoom, LeafAnswer, LeafRoom, Mark, check_leaf, check_pack};
-use proof_model::{Node, Pricing, Proof, Weights};
+use plan_model::{Node, Pricing, Proof, Weights};
 use soc_model::place_of;
 
 /// A split of which a branch is under way.

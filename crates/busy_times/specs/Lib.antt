@@ -1,2 +1,4 @@
 pub mod LatestEnds
 pub mod BusyTimes
+pub mod Draws
+pub mod Profiles

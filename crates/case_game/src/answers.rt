@@ -6,9 +6,8 @@ use crate::resources::{RESOURCES_MOST, Resources};
 use case_tables::{ChipTables, LISTS_MOST, ListForm};
 use leaf_values::LeafBasis;
 use outside::NoMemory;
-use search_numbers::{as_number, as_part, fill_items};
 use std::alloc::Global;
-use tables::{NONE, filled, item_or, put_item};
+use tables::{NONE, SHARE_PLACES, as_number, as_part, fill_items, filled, item_or, put_item};
 
 /// The most cuts of a game.
 pub(crate) const CUTS_MOST: usize = 300;
@@ -197,6 +196,6 @@ impl Answers {
             let part = i128::from(item_or(parts, place, 0));
             sum = sum.saturating_add(used.wrapping_mul(part));
         }
-        i64::try_from(sum >> 30).unwrap_or(i64::MAX)
+        i64::try_from(sum >> SHARE_PLACES).unwrap_or(i64::MAX)
     }
 }

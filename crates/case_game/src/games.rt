@@ -1,16 +1,15 @@
 //! A case whose game is played, and whose weights are valued.
 
+use crate::MatrixGame;
 use crate::answers::CUTS_MOST;
 use crate::picks::Pick;
 use crate::play::Play;
 use crate::resources::RESOURCES_MOST;
 use case_tables::{Case, ChipTables, ChosenLists, LeafWeights, Mix};
 use leaf_values::{LeafBasis, LeafValues, Spans};
-use matrix_game::MatrixGame;
 use outside::{NoMemory, both};
-use search_numbers::as_number;
 use std::alloc::Global;
-use tables::item_or;
+use tables::{as_number, item_or};
 
 /// The game of a case: its slots, what weights show there, and the play.
 #[derive(Drop)]

@@ -8,11 +8,15 @@
 #![tactic(auto)]
 
 mod answers;
+mod fractions;
+mod game;
 mod games;
 mod mixing;
 mod picks;
 mod play;
 mod resources;
+mod scale;
 
+pub use game::MatrixGame;
 pub use games::CaseGame;
 pub use picks::Pick;

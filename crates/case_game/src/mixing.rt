@@ -4,8 +4,7 @@ use crate::picks::Pick;
 use crate::play::Play;
 use case_tables::{Mix, REST};
 use leaf_values::{LeafBasis, Spans};
-use search_numbers::{as_number, as_part};
-use tables::{NONE, item_or, put_item};
+use tables::{NONE, SHARE_PLACES, as_number, as_part, item_or, put_item};
 
 /// Adds to the part at a place.
 fn add_part(parts: &mut [i64], place: usize, more: i64) {
@@ -37,7 +36,7 @@ fn add_test(basis: &LeafBasis, mix: &mut Mix, test: usize, pick: Pick, rank: usi
         return;
     }
     let share = basis.slots.share_of_test(test, pick.width);
-    let used = as_part(part.wrapping_mul(share) >> 30);
+    let used = as_part(part.wrapping_mul(share) >> SHARE_PLACES);
     add_part(&mut mix.on_all, test, used);
     if rank != REST {
         let place = rank.saturating_mul(basis.chip.tests).saturating_add(test);
@@ -108,6 +107,6 @@ impl Play {
                 sum = sum.saturating_add(part.saturating_mul(used));
             }
         }
-        i64::try_from(sum >> 30).unwrap_or(i64::MAX)
+        i64::try_from(sum >> SHARE_PLACES).unwrap_or(i64::MAX)
     }
 }

@@ -2,8 +2,7 @@
 
 use crate::resources::Resources;
 use leaf_values::{LeafBasis, Pays, Range, Spans, StepRange};
-use search_numbers::as_number;
-use tables::item_or;
+use tables::{as_number, item_or};
 
 /// The slot that a module takes.
 #[derive(Clone, Copy, Drop)]

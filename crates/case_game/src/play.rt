@@ -1,16 +1,15 @@
 //! The play of a case's game: parts of the weights for the resources against slots for the modules, until neither side gains
 //! by more.
 
+use crate::MatrixGame;
 use crate::answers::{Answers, CUTS_MOST};
 use crate::picks::{Pick, Prices};
 use crate::resources::{RESOURCES_MOST, Resources};
 use case_tables::{ChipTables, ChosenLists, LeafWeights};
 use leaf_values::{LeafBasis, LeafValues, Pays, Spans};
-use matrix_game::MatrixGame;
 use outside::{NoMemory, both};
-use search_numbers::{ONE, as_number, copy_items, fill_items};
 use std::alloc::Global;
-use tables::{filled, item_or};
+use tables::{ONE, as_number, copy_items, fill_items, filled, item_or};
 
 /// The play ends where the best parts are worth the bound of the game but for one part in `EXACT`.
 const EXACT: i64 = 50_000;

@@ -4,9 +4,8 @@
 use case_tables::{ChosenLists, LISTS_MOST, LeafWeights, Lists, RANGES_MOST, REST, WEIGHT_MOST};
 use leaf_values::Spans;
 use outside::NoMemory;
-use search_numbers::{ONE, as_number, as_part, fill_items};
 use std::alloc::Global;
-use tables::{NONE, filled, item_or, put_item};
+use tables::{NONE, ONE, as_number, as_part, fill_items, filled, item_or, put_item};
 
 /// The most resources of a game.
 pub(crate) const RESOURCES_MOST: usize = RANGES_MOST + LISTS_MOST;

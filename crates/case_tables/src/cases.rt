@@ -1,9 +1,8 @@
 //! A case of a proof: intervals of widths for the first ranks of a ranking, and the ranks that each wired module may be on.
 
 use outside::NoMemory;
-use search_numbers::{fill_items, mark_place, marked, unmark_place};
 use std::alloc::Global;
-use tables::{filled, item_or, put_item};
+use tables::{fill_items, filled, item_or, mark_place, marked, put_item, unmark_place};
 
 /// The most known ranks of a case.
 pub const RANKS_MOST: usize = 256;

@@ -7,12 +7,14 @@
 
 mod cases;
 mod chip;
+mod filling;
 mod lists;
 mod mix;
 mod weights;
 
 pub use cases::{Case, RANGES_MOST, RANKS_MOST, REST};
 pub use chip::ChipTables;
+pub use filling::tables_of;
 pub use lists::{ChosenLists, LISTS_MOST, ListForm, Lists};
 pub use mix::Mix;
 pub use weights::{LeafWeights, WEIGHT_MOST, scaled_weight};

@@ -2,9 +2,8 @@
 
 use crate::chip::ChipTables;
 use outside::NoMemory;
-use search_numbers::{mark_place, marked};
 use std::alloc::Global;
-use tables::{NONE, filled, item_or, put_item};
+use tables::{NONE, filled, item_or, mark_place, marked, put_item};
 
 /// The most lists of a proof.
 pub const LISTS_MOST: usize = 256;

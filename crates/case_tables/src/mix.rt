@@ -2,9 +2,8 @@
 
 use crate::chip::ChipTables;
 use outside::NoMemory;
-use search_numbers::ONE;
 use std::alloc::Global;
-use tables::filled;
+use tables::{ONE, filled};
 
 /// A mix, in parts of the cycles that a better plan has at most.
 #[derive(Drop)]

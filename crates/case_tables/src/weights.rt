@@ -3,9 +3,8 @@
 use crate::cases::RANGES_MOST;
 use crate::lists::LISTS_MOST;
 use outside::NoMemory;
-use search_numbers::{copy_items, fill_items};
 use std::alloc::Global;
-use tables::{NONE, filled, item_or, put_item};
+use tables::{NONE, copy_items, fill_items, filled, item_or, put_item};
 
 /// The greatest weight of a leaf.
 pub const WEIGHT_MOST: u64 = 999_999_999;

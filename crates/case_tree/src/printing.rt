@@ -3,7 +3,7 @@
 use crate::tree::{CaseTree, NodeRule, ProofNames, whole_count};
 use case_tables::{LISTS_MOST, LeafWeights, ListForm};
 use outside::{NoMemory, both, push};
-use proof_model::{Node, Pricing, Proof, TestList, Weights};
+use plan_model::{Node, Pricing, Proof, TestList, Weights};
 use soc_model::TestId;
 use std::alloc::Global;
 use tables::{NONE, filled, item_or, put_item};

@@ -2,6 +2,7 @@ pub mod AllFiles
 pub mod Completeness
 pub mod Endings
 pub mod FileStages
+pub mod Kept
 pub mod LineFacts
 pub mod LoadStages
 pub mod LoadedFiles
@@ -9,7 +10,6 @@ pub mod LoadsWritten
 pub mod Judged
 pub mod Refusals
 pub mod OwnFiles
-pub mod Promised
 pub mod Reporting
 mod Rows
 pub mod SaidOnce

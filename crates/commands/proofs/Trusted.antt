@@ -4,10 +4,8 @@ use Rattle.std.specs.FinMap.{get}
 use Rattle.std.proofs.lemmas.Bool.{ltb-false}
 use Rattle.outside.specs.Held.{Files, Appended}
 use Rattle.soc_model.specs.Chips.{SocValue}
-use Rattle.plan_model.specs.Plans.{LimitsValue, PlanValue, BoundValue}
-use Rattle.plan_model.specs.Runs.{Content}
-use Rattle.plan_model.specs.Right.{IsRight}
-use Rattle.plan_model.specs.Rules.{IsGood, IsBound}
+use Rattle.plan_model.specs.Plans.{LimitsValue, PlanValue}
+use Rattle.plan_model.specs.Rules.{IsGood}
 use Rattle.plan_model.specs.Certificates.{IsAccepted}
 use Rattle.soc_reader.specs.ChipForm.{SaysChip}
 use Rattle.plan_text.specs.Answers.{SaysPlan}
@@ -20,7 +18,7 @@ use Rattle.commands.specs.Readings.{most_of, IsRead, RefusesChip, SaysLimits, Re
 use Rattle.commands.specs.Procedures.{Procedure, Unless, with_limits, with_accepted, with_both, with_all}
 use Rattle.commands.specs.Answers.{Stage, Answers}
 use Rattle.commands.specs.Ends.{MayAnswer, Ends}
-use Rattle.commands.specs.Trusted.{IsChipIn, AreLimitsIn, IsPlanIn, IsMade, IsTrustworthy}
+use Rattle.commands.specs.Trusted.{TrustLaws, IsChipIn, AreLimitsIn, IsPlanIn, IsMade, IsTrustworthy}
 
 -- ---- calls that end with Done
 
@@ -38,11 +36,6 @@ stage_done {V} file Says Refuses Next (Some bytes) text stage = go (nat_lt (most
   go true e a = let wrong : Done ≡ TooLong = a.0 in absurd cc
   go false e (inl a) = (a.0, record { bytes = bytes; held_is = refl; within = ltb-false (most_of file) (length bytes) e; says = a.1 }, a.2)
   go false e (inr a) = let wrong : Done ≡ Refused = a.0 in absurd cc
-
--- the laws that the headline rests on
-pub record TrustLaws : Type 0 where
-  pub right : (soc : SocValue) (limits : LimitsValue) (plan : PlanValue) (content : Content) → IsGood soc limits plan → IsRight soc limits plan content
-  pub bound : (soc : SocValue) (limits : LimitsValue) (bound : BoundValue) → 1 ≤ limits.wires → IsAccepted soc limits bound → IsBound soc limits bound.cycles
 
 -- a file whose bytes say a value says what follows of that
 pub read_as_well : {V : Type 0} (file : FileKind) (A B : List ℕ → V → Type 0) (held : Option (List ℕ)) (value : V) → ((bytes : List ℕ) → A bytes value → B bytes value) → IsRead file A held value → IsRead file B held value

@@ -4,6 +4,7 @@ pub mod Commands
 pub mod Decides
 pub mod Ends
 pub mod Endings
+pub mod Kept
 pub mod Loads
 pub mod Procedures
 pub mod Progress
@@ -12,4 +13,3 @@ pub mod Readings
 pub mod Settled
 pub mod Texts
 pub mod Trusted
-pub mod TopCalls

@@ -1,16 +1,24 @@
 -- What is promised of a plan that is printed or accepted.
-use Rattle.std.specs.Prelude.{ℕ, List, Option}
+use Rattle.std.specs.Prelude.{ℕ, ◌≤◌, List, Option}
 use Rattle.std.specs.FinMap.{get}
 use Rattle.outside.specs.Held.{Files, Appended}
 use Rattle.soc_model.specs.Chips.{SocValue}
-use Rattle.plan_model.specs.Plans.{LimitsValue, PlanValue}
+use Rattle.plan_model.specs.Plans.{LimitsValue, PlanValue, BoundValue}
 use Rattle.plan_model.specs.Runs.{Content}
 use Rattle.plan_model.specs.Right.{IsRight}
-use Rattle.plan_model.specs.Rules.{IsBound}
+use Rattle.plan_model.specs.Rules.{IsGood, IsBound}
+use Rattle.plan_model.specs.Certificates.{IsAccepted}
 use Rattle.soc_reader.specs.ChipForm.{SaysChip}
 use Rattle.plan_text.specs.Answers.{SaysPlan}
 use Rattle.commands.specs.declared.FileKind.TheVariants.{Soc, Limits, Plan}
 use Rattle.commands.specs.Readings.{IsRead, SaysLimits}
+
+-- Good plans run right, for every content, and the cycles of a certificate that is accepted are a bound.
+pub record TrustLaws : Type 0 where
+  pub right : (soc : SocValue) (limits : LimitsValue) (plan : PlanValue) (content : Content) → IsGood soc limits plan →
+      IsRight soc limits plan content
+  pub bound : (soc : SocValue) (limits : LimitsValue) (bound : BoundValue) → 1 ≤ limits.wires → IsAccepted soc limits bound →
+      IsBound soc limits bound.cycles
 
 -- a file's chip, limits for a chip, and a plan
 abbrev pub IsChipIn : Files → (soc : List ℕ) → SocValue → Type 0

@@ -8,11 +8,10 @@ mod laws;
 mod lines;
 mod loading;
 mod progress;
-mod top_calls;
 mod words;
 mod writing;
 
-pub use laws::files_say_one_thing;
+pub use laws::{files_say_one_thing, plans_are_trustworthy};
 pub use lines::{
     less_line, limit_word, number_line, push_decimal, push_test, push_text, push_two, run_line,
 };
@@ -20,8 +19,7 @@ pub use loading::{
     Accepted, Both, answered_with, bad_words, load_all, load_both, load_chip, load_file,
     refused_with,
 };
-pub use progress::{REPORTS, line_room, report_line};
-pub use top_calls::{TopCall, top_call};
+pub use progress::{REPORTS, Unheard, line_room, report_line};
 pub use words::{command_of, each_command_has_words, words_after_name};
 pub use writing::write_verdict;
 

@@ -1,9 +1,9 @@
 //! How far a search is, reported line by line as it goes.
-ghost use Rattle.std.specs.Prelude.{◌≡◌, ◌≤◌, OnOk, Bool};
+ghost use Rattle.std.specs.Prelude.{◌≡◌, ◌≤◌, ◌<◌, ℕ, OnOk, Bool, length};
 ghost use Rattle.outside.specs.Puts.{Puts};
 ghost use Rattle.commands.specs.Progress.{MayAdd, reported_line};
 
-use outside::{NoMemory, Sink, WriteFault, extend, push_number, put_all};
+use outside::{NoMemory, Put, Sink, WriteFault, extend, push_number, put_all};
 use std::alloc::Global;
 
 /// How often a long search reports.
@@ -15,6 +15,32 @@ const LINE_ROOM: usize = 64;
 /// Room for a line.
 pub fn line_room(alloc: Global) -> Result<Vec<u8>, NoMemory> {
     Ok(Vec::with_capacity(alloc, LINE_ROOM)?)
+}
+
+/// A sink that takes all that is put and keeps nothing of it, for a caller that wants no reports. It meets no fault.
+#[derive(Drop)]
+pub struct Unheard;
+
+impl Sink for Unheard {
+    ghost use Rattle.std.specs.Prelude.{None};
+
+    ghost written = { λ _. None };
+
+    ghost faults = { λ _. 0 };
+
+    ghost is_put = { λ before piece answer after. Unit {0} };
+
+    /// The whole piece is taken.
+    fn put(&mut self, piece: &[u8]) -> Put
+        // The promises of every sink, where it says nothing of what was written.
+        ensures within_piece { (n : ℕ) → result ≡ Put.Taken n → n ≤ length piece.now }
+        ensures progress { (n : ℕ) → result ≡ Put.Taken n → 0 < length piece.now → 0 < n }
+
+        // What this one adds.
+        ensures whole { result ≡ Put.Taken (length piece.now) }
+    {
+        Put::Taken(piece.len())
+    }
 }
 
 /// Writes a line of two numbers, each behind its words.

@@ -1,1 +1,7 @@
 pub mod Listing
+pub mod Marking
+pub mod Operations
+pub mod Placed
+pub mod Told
+pub mod Counting
+pub mod Saying

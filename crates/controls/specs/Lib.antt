@@ -1,1 +1,5 @@
 pub mod Controls
+pub mod Tests
+pub mod Spells
+pub mod Columns
+pub mod Said

@@ -9,7 +9,15 @@ ghost use Rattle.soc_model.specs.Chips.{module_value, soc_value};
 ghost use Rattle.plan_model.specs.Rules.{live_ids};
 ghost use Rattle.controls.specs.Controls.{capture_of, controls, run_of, runs_in, shift_of, tam_numbers};
 
+mod columns;
+mod laws;
+mod placing;
+mod rows;
+mod spells;
+
+pub use laws::controls_run_the_plan;
 use outside::{NoMemory, push};
+pub use rows::ControlRows;
 use soc_model::{Module, Soc, TestId, has_tam_test, live};
 use std::alloc::Global;
 

@@ -3,7 +3,7 @@ use Rattle.std.proofs.Common.{◌≡◌, ℕ, ◌+◌, ◌-◌, ◌≤◌, List,
 use Rattle.outside.specs.Held.{Appended, AppendedFront}
 use Rattle.outside.proofs.PieceLemmas.{Appended-then}
 use Rattle.tester_vectors.proofs.Blocks.{front_after}
-use Rattle.cycle_forms.specs.Rows.{CycleRow}
+use Rattle.cycle_texts.specs.Rows.{CycleRow}
 use Rattle.cycle_texts.specs.ProgramText.{PartOf, parts_of}
 use Rattle.cycle_texts.proofs.BlockRows.{parts_split, parts_rest}
 

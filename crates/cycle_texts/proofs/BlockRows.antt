@@ -3,7 +3,7 @@ use Rattle.std.proofs.Common.{◌≡◌, ℕ, zero, suc, ◌+◌, ◌-◌, ◌*�
 use Rattle.std.proofs.Math.Nat.{mul-le-mul_right}
 use Rattle.std.proofs.lemmas.List.{length-take-le}
 use Rattle.outside.specs.Held.{Appended}
-use Rattle.cycle_forms.specs.Rows.{CycleRow, HasSizes, HaveSizes}
+use Rattle.cycle_texts.specs.Rows.{CycleRow, HasSizes, HaveSizes}
 use Rattle.cycle_texts.specs.declared.blocks.RowBlock.{RowBlock}
 use Rattle.cycle_texts.specs.ProgramText.{PartOf, row_before, part_at, parts_of}
 use Rattle.cycle_texts.specs.RowBlocks.{block_row, block_before, IsBlock, HasRows}

@@ -15,7 +15,7 @@ use Rattle.tester_vectors.specs.Marks.{mark}
 use Rattle.tester_vectors.specs.VectorText.{driven_text, compared_text, cycle_line}
 use Rattle.tester_vectors.proofs.CycleLines.{block_is, flat_more}
 use Rattle.tester_vectors.proofs.ReadBits.{marks_stand_in}
-use Rattle.cycle_forms.specs.Rows.{CycleRow}
+use Rattle.cycle_texts.specs.Rows.{CycleRow}
 use Rattle.controls.specs.Controls.{control_row, controls}
 use Rattle.cycle_texts.specs.ProgramText.{row_at}
 use Rattle.cycle_texts.specs.RowBlocks.{row_in}

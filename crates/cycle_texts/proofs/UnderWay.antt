@@ -2,7 +2,7 @@
 use Rattle.std.proofs.Common.{◌≡◌, ℕ, List, [], ◌++◌, Option, take, refl, ap, sym, subst, ◌∙◌, append_assoc}
 use Rattle.outside.specs.Held.{Appended, AppendedFront}
 use Rattle.outside.proofs.PieceLemmas.{Appended-nil, Appended-then}
-use Rattle.cycle_forms.specs.Rows.{IsPutAt}
+use Rattle.cycle_texts.specs.Rows.{IsPutAt}
 use Rattle.tester_vectors.proofs.Blocks.{front_after}
 use Rattle.cycle_texts.specs.UnderWay.{IsUnderWay}
 

@@ -7,7 +7,7 @@ use Rattle.plan_model.specs.Runs.{Content}
 use Rattle.vector_lines.specs.Wires.{wires_of}
 use Rattle.vector_lines.specs.Marks.{Marks}
 use Rattle.tester_vectors.specs.VectorText.{driven_text, compared_text, head_line}
-use Rattle.cycle_forms.specs.Rows.{CycleRow}
+use Rattle.cycle_texts.specs.Rows.{CycleRow}
 use Rattle.controls.specs.Controls.{control_row}
 
 -- what stands on the wires and the controls at a cycle: the bits and marks are those of the line of the cycle in a text of vectors

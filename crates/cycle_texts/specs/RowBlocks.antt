@@ -1,6 +1,6 @@
 -- The rows of some cycles one after another: lines of vectors, and digits of controls.
 use Rattle.std.specs.Prelude.{◌≡◌, ℕ, zero, suc, ◌+◌, ◌*◌, ◌<◌, ◌≤◌, List, Option, None, Some, length, take, drop}
-use Rattle.cycle_forms.specs.Rows.{CycleRow}
+use Rattle.cycle_texts.specs.Rows.{CycleRow}
 use Rattle.cycle_texts.specs.declared.blocks.RowBlock.{RowBlock}
 
 -- a row by its bytes: its line begins with the bits that are driven, and behind a space stand those that are compared

@@ -8,7 +8,7 @@ use Rattle.vector_lines.specs.Wires.{wires_of}
 use Rattle.vector_lines.specs.Marks.{Keys}
 use Rattle.vector_lines.specs.Vectors.{AreVectors}
 use Rattle.controls.specs.Controls.{controls}
-use Rattle.control_rows.specs.Tests.{AreControlRows}
+use Rattle.controls.specs.Tests.{AreControlRows}
 use Rattle.cycle_texts.specs.declared.sources.RowSource.{RowSource}
 
 -- the vectors of a good plan for contents with these keys, and its controls

@@ -1,9 +1,9 @@
 //! The rows of some cycles one after another, in bytes.
 ghost use Rattle.std.specs.Prelude.{◌≡◌, ◌+◌, ◌*◌, ◌<◌, ◌≤◌};
-ghost use Rattle.cycle_forms.specs.Rows.{option_row, row_of};
+ghost use Rattle.cycle_texts.specs.Rows.{option_row, row_of};
 ghost use Rattle.cycle_texts.specs.RowBlocks.{block_before, block_row, IsBlock};
 
-use cycle_forms::Row;
+use crate::Row;
 
 /// The bytes of a line of vectors: two for each wire, a space and a line feed.
 pub fn line_length(wires: usize) -> usize

@@ -16,17 +16,18 @@ ghost use Rattle.vector_lines.specs.Wires.{wires_of};
 ghost use Rattle.vector_lines.specs.Marks.{Marks, Keys};
 ghost use Rattle.vector_lines.specs.Placed.{StandFor};
 ghost use Rattle.controls.specs.Controls.{controls};
-ghost use Rattle.cycle_forms.specs.declared.TheConstants.{CYCLE_MOST};
+ghost use Rattle.cycle_texts.specs.declared.forms.TheConstants.{CYCLE_MOST};
 ghost use Rattle.cycle_texts.specs.ProgramText.{program_text};
 ghost use Rattle.cycle_texts.specs.Sources.{HaveRoom, IsSource};
 
 mod blocks;
+mod forms;
 mod laws;
 mod parts;
 mod sources;
 mod writing;
 
-use cycle_forms::CycleForm;
+pub use forms::{CYCLE_MOST, CycleForm, Row};
 pub use laws::rows_show_vectors;
 use live_tests::PlacedPlan;
 use outside::Sink;

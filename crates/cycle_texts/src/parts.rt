@@ -2,14 +2,14 @@
 ghost use Rattle.std.specs.Prelude.{◌≡◌, ◌+◌, ◌-◌, ◌<◌, ◌≤◌, ℕ, length, take, IfOk, OnOk, OnErr, true, false};
 ghost use Rattle.outside.specs.Held.{Appended, AppendedFront, Rose};
 ghost use Rattle.outside.specs.Puts.{Puts};
-ghost use Rattle.cycle_forms.specs.Rows.{CycleRow, IsPutAt};
-ghost use Rattle.cycle_forms.specs.declared.TheConstants.{CYCLE_MOST};
+ghost use Rattle.cycle_texts.specs.Rows.{CycleRow, IsPutAt};
+ghost use Rattle.cycle_texts.specs.declared.forms.TheConstants.{CYCLE_MOST};
 ghost use Rattle.cycle_texts.specs.ProgramText.{parts_of};
 ghost use Rattle.cycle_texts.specs.RowBlocks.{block_before, block_row, HasRows, IsBlock};
 ghost use Rattle.cycle_texts.specs.UnderWay.{IsUnderWay};
 
+use crate::CycleForm;
 use crate::blocks::RowBlock;
-use cycle_forms::CycleForm;
 use outside::{Sink, WriteFault, put_all};
 
 /// Answers where a part of at most `room` bytes can be put into a text that is filled up to a byte. Where too little is left behind it,

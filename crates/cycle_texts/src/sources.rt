@@ -11,7 +11,7 @@ ghost use Rattle.cycle_texts.specs.RowBlocks.{AreRows};
 ghost use Rattle.cycle_texts.specs.Sources.{HaveRoom, IsSource, IsSourceOf};
 
 use crate::blocks::line_length;
-use control_rows::ControlRows;
+use controls::ControlRows;
 use live_tests::{PlacedPlan, all_wires};
 use outside::NoMemory;
 use plan_model::Plan;

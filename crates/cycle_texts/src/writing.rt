@@ -7,14 +7,14 @@ ghost use Rattle.plan_model.specs.Runs.{Content};
 ghost use Rattle.plan_model.specs.Views.{plan_value};
 ghost use Rattle.vector_lines.specs.Marks.{Marks};
 ghost use Rattle.vector_lines.specs.Placed.{StandFor};
-ghost use Rattle.cycle_forms.specs.declared.TheConstants.{CYCLE_MOST};
+ghost use Rattle.cycle_texts.specs.declared.forms.TheConstants.{CYCLE_MOST};
 ghost use Rattle.cycle_texts.specs.ProgramText.{parts_of, program_text, row_at};
 ghost use Rattle.cycle_texts.specs.Sources.{HaveRoom, IsSource};
 
+use crate::CycleForm;
 use crate::blocks::RowBlock;
 use crate::parts::put_parts;
 use crate::sources::RowSource;
-use cycle_forms::CycleForm;
 use outside::{Sink, WriteFault, put_all};
 use vector_lines::Contents;
 

@@ -10,7 +10,7 @@ use Rattle.leaf_bounds.specs.declared.basis.Basis.{Basis}
 use Rattle.leaf_bounds.specs.declared.case.CaseRoom.{CaseRoom}
 use Rattle.leaf_bounds.specs.declared.leaf.LeafAnswer.{LeafAnswer}
 use Rattle.leaf_bounds.specs.declared.leaf.LeafAnswer.TheVariants.{Broken, Holds, Shows}
-use Rattle.proof_model.specs.Proofs.{ListValue, WeightsValue, OfSum}
+use Rattle.plan_model.specs.Proofs.{ListValue, WeightsValue, OfSum}
 use Rattle.leaf_bounds.specs.Cases.{Case, IsEmpty, spare}
 use Rattle.leaf_bounds.specs.CaseRooms.{IsCaseOf}
 use Rattle.leaf_bounds.specs.Leaves.{IsSum, self_use, weighed, slots_of, cost_of_all, leaf_shows, worth_of_cycle, is_rank, module_use, slot}
@@ -26,7 +26,7 @@ use Rattle.leaf_bounds.specs.Lists.{room_of, use_of}
 use Rattle.leaf_bounds.proofs.LeafSlots.{has_none, has_some, smallest_is, alone, no_rank, rank_more, rank_passed, rank_skipped, rank_tried}
 use Rattle.std.proofs.lemmas.List.Sums.{sum_by-cons}
 use Rattle.plan_model.proofs.Sums.{sum_by-le_at}
-use Rattle.packed_times.specs.Packed.{packed_tam_time, packed_time}
+use Rattle.proof_facts.specs.Packed.{packed_tam_time, packed_time}
 use Rattle.leaf_bounds.specs.declared.leaf_costs.BesideUse.{BesideUse}
 use Rattle.leaf_bounds.specs.declared.leaf_costs.Weighed.{Weighed}
 use Rattle.leaf_bounds.specs.declared.list_table.ListTable.{ListTable}

@@ -3,7 +3,7 @@ use Rattle.std.proofs.Common.{◌≡◌, ℕ, zero, suc, ◌+◌, ◌-◌, ◌*�
 use Rattle.std.specs.List.{range_with_len}
 use Rattle.std.proofs.lemmas.Bool.{cases_eq, cases_lt}
 use Rattle.soc_model.specs.Chips.{SocValue}
-use Rattle.packed_times.specs.Packed.{packed_tam_time}
+use Rattle.proof_facts.specs.Packed.{packed_tam_time}
 use Rattle.plan_model.specs.Plans.{smallest}
 use Rattle.plan_model.proofs.Lists.{from_append, from_flat_map, from_filter}
 use Rattle.leaf_bounds.specs.declared.case.CaseRoom.{CaseRoom}
@@ -13,7 +13,7 @@ use Rattle.leaf_bounds.specs.Takings.{bit_at}
 use Rattle.leaf_bounds.specs.Bits.{HasPlace, bit_place}
 use Rattle.leaf_bounds.specs.declared.leaf_slots.WidthRange.{WidthRange}
 use Rattle.leaf_bounds.specs.declared.basis.Basis.{Basis}
-use Rattle.proof_model.specs.Proofs.{WeightsValue}
+use Rattle.plan_model.specs.Proofs.{WeightsValue}
 use Rattle.leaf_bounds.specs.Bases.{chip_of, limits_of, lists_of}
 use Rattle.leaf_bounds.specs.Laws.{WiderSlotsCostNoLess}
 use Rattle.leaf_bounds.specs.Cases.{Case, known_ranks, low_at, high_at}

@@ -19,7 +19,7 @@ use Rattle.plan_model.specs.Rules.{live_ids}
 use Rattle.plan_model.proofs.Sums.{at_most_one, item-le-sum_by, one_if}
 use Rattle.plan_model.proofs.CertificatesAreBounds.{same_test_is}
 use Rattle.live_tests.proofs.HowMany.{live_tests-le}
-use Rattle.proof_model.specs.Proofs.{ListValue, OfTurns, OfTurnsOn, OfCrowd, OfPower, list_value, WeightsValue}
+use Rattle.plan_model.specs.Proofs.{ListValue, OfTurns, OfTurnsOn, OfCrowd, OfPower, list_value, WeightsValue}
 use Rattle.common_lemmas.proofs.Lists.{sums_agree, contains_at, from_map}
 use Rattle.std.proofs.Math.Nat.{mul-le-mul_right}
 use Rattle.std.proofs.lemmas.List.Elements.{All-tail, All-push}
@@ -29,7 +29,7 @@ use Rattle.leaf_bounds.specs.declared.leaf_costs.BesideUse.{BesideUse}
 use Rattle.leaf_bounds.specs.declared.leaf_costs.Weighed.{Weighed}
 use Rattle.leaf_bounds.specs.declared.list_table.Role.{Role}
 use Rattle.leaf_bounds.specs.declared.list_table.Role.TheVariants.{Out, In, Beside, Drawing}
-use Rattle.proof_model.specs.declared.TestList.{TestList}
+use Rattle.plan_model.specs.declared.proof.TestList.{TestList}
 use Rattle.leaf_bounds.specs.ListTables.{KeepFirst, role_of, role_at}
 use Rattle.leaf_bounds.specs.Leaves.{weighed}
 use Rattle.leaf_bounds.specs.Bases.{IsBasis, AllKept, chip_of, limits_of, lists_of}

@@ -19,10 +19,10 @@ use Rattle.bound_rules.proofs.Modules.{the_live, only_module, sum_of_module}
 use Rattle.bound_rules.proofs.Works.{live_patterns}
 use Rattle.bound_rules.proofs.SoundWork.{live_work-le_live}
 use Rattle.soc_model.specs.SoundChips.{IsSoundChip}
-use Rattle.packed_times.specs.Packed.{packed_time, packed_tam_time}
-use Rattle.packed_times.proofs.LeastTimes.{packed_time-le}
+use Rattle.proof_facts.specs.Packed.{packed_time, packed_tam_time}
+use Rattle.proof_facts.proofs.LeastTimes.{packed_time-le}
 use Rattle.leaf_bounds.specs.declared.basis.Basis.{Basis}
-use Rattle.proof_model.specs.Proofs.{ListValue, OfTurns, OfTurnsOn, OfCrowd, OfPower, WeightsValue}
+use Rattle.plan_model.specs.Proofs.{ListValue, OfTurns, OfTurnsOn, OfCrowd, OfPower, WeightsValue}
 use Rattle.leaf_bounds.specs.Lists.{use_of}
 use Rattle.leaf_bounds.specs.Leaves.{cost, is_rank, module_use, self_use, slot, weighed}
 use Rattle.plan_model.specs.declared.Limits.{Limits}

@@ -8,9 +8,9 @@ use Rattle.plan_model.specs.Bounds.{is_of}
 use Rattle.plan_model.proofs.Lists.{from_filter, slice_get-replicate}
 use Rattle.plan_model.proofs.PlannedTests.{live_at}
 use Rattle.plan_model.proofs.Sums.{sum_by-le_at}
-use Rattle.packed_times.specs.Packed.{packed_time, packed_tam_time, self_test_time}
+use Rattle.proof_facts.specs.Packed.{packed_time, packed_tam_time, self_test_time}
 use Rattle.plan_model.specs.Plans.{LimitsValue}
-use Rattle.proof_model.specs.Proofs.{ListValue, WeightsValue, PricingValue}
+use Rattle.plan_model.specs.Proofs.{ListValue, WeightsValue, PricingValue}
 use Rattle.leaf_bounds.specs.Lists.{use_of}
 use Rattle.leaf_bounds.specs.Leaves.{slot, is_rank, module_use, weighed, is_short}
 use Rattle.leaf_bounds.specs.Laws.{WiderSlotsCostNoLess}

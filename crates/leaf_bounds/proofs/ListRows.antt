@@ -15,9 +15,9 @@ use Rattle.plan_model.specs.Certificates.{is_called}
 use Rattle.plan_model.proofs.FirstBreaches.{EachTo, each_more, each_all}
 use Rattle.plan_model.proofs.Lists.{at_contains, any_from}
 use Rattle.plan_model.proofs.PlannedTests.{of_first_is}
-use Rattle.exclusions.specs.Exclusions.{excludes, least_power}
-use Rattle.exclusions.specs.Rows.{HasRow}
-use Rattle.exclusions.proofs.Decided.{turned}
+use Rattle.proof_facts.specs.Exclusions.{excludes, least_power}
+use Rattle.proof_facts.specs.Rows.{HasRow}
+use Rattle.proof_facts.proofs.Decided.{turned}
 use Rattle.leaf_bounds.specs.Takings.{bit_at}
 use Rattle.leaf_bounds.specs.declared.list_rules.ListRules.{ListRules}
 use Rattle.leaf_bounds.specs.declared.list_rules.TurnMarks.{TurnMarks}
@@ -28,7 +28,7 @@ use Rattle.leaf_bounds.proofs.TestNames.{one_place, place_is, name_at}
 use Rattle.common_lemmas.proofs.Lists.{contains_at, any_at, in_take, some_item}
 use Rattle.std.specs.Result.{IfOk}
 use Rattle.outside.specs.declared.NoMemory.{NoMemory}
-use Rattle.proof_model.specs.Proofs.{ListValue, OfTurns, OfTurnsOn, OfCrowd, OfPower}
+use Rattle.plan_model.specs.Proofs.{ListValue, OfTurns, OfTurnsOn, OfCrowd, OfPower}
 use Rattle.leaf_bounds.specs.declared.list_table.ListTable.{ListTable}
 use Rattle.leaf_bounds.specs.declared.list_table.Role.{Role}
 use Rattle.leaf_bounds.specs.declared.list_table.Role.TheVariants.{Out, Drawing}

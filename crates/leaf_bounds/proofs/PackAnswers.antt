@@ -11,8 +11,8 @@ use Rattle.leaf_bounds.specs.Leaves.{rest_high, AreNamedLists, IsKnownList}
 use Rattle.leaf_bounds.specs.PackLeaves.{ArePlaces, ArePricedOnce, IsNewPrice, is_empty_case, numbers_priced, place_called, IsPack, PaysTooMuch, list_weights}
 use Rattle.std.proofs.lemmas.List.Elements.{All-nil}
 use Rattle.pack_leaves.specs.Greatest.{IsGreatest}
-use Rattle.proof_model.specs.Proofs.{ListValue, PricingValue, OfPack}
-use Rattle.proof_model.specs.Sayable.{ArePrices, IsUse, IsWeight}
+use Rattle.plan_model.specs.Proofs.{ListValue, PricingValue, OfPack}
+use Rattle.plan_model.specs.Sayable.{ArePrices, IsUse, IsWeight}
 use Rattle.leaf_bounds.specs.declared.basis.Basis.{Basis}
 use Rattle.leaf_bounds.specs.declared.leaf.LeafAnswer.TheVariants.{Holds, Shows}
 use Rattle.leaf_bounds.specs.Bases.{chip_of, limits_of, lists_of, claim_of}

@@ -9,7 +9,7 @@ use Rattle.pack_leaves.specs.Knapsacks.{most_worth, with_item}
 use Rattle.pack_leaves.specs.Sharings.{Sharing, IsSharing, sharing_worth, IsMostShared, IsWithRank, IsWithRest}
 use Rattle.pack_leaves.proofs.Loads.{loads_are_most, worth_next, worth_none, worth-le}
 use Rattle.pack_leaves.proofs.Sums.{sum_next, sum_none}
-use Rattle.proof_model.specs.Proofs.{PricingValue}
+use Rattle.plan_model.specs.Proofs.{PricingValue}
 use Rattle.leaf_bounds.specs.declared.basis.Basis.{Basis}
 use Rattle.leaf_bounds.specs.Cases.{Case, Interval, interval_of, known_ranks, least_wires, low_at, high_at, spare, IsEmpty}
 use Rattle.leaf_bounds.specs.Leaves.{slot, is_short, module_use, rest_high, weighed, cost}
@@ -19,7 +19,7 @@ use Rattle.leaf_bounds.specs.PackBuses.{bus_most, rank_worth, rest_worth, span_a
 use Rattle.soc_model.specs.Chips.{SocValue}
 use Rattle.pack_leaves.proofs.Rows.{item_same}
 use Rattle.pack_leaves.proofs.Shares.{rest_most, rank_most}
-use Rattle.proof_model.specs.Sayable.{ArePrices, IsPrice}
+use Rattle.plan_model.specs.Sayable.{ArePrices, IsPrice}
 use Rattle.leaf_bounds.specs.declared.case.CaseRoom.{CaseRoom}
 use Rattle.leaf_bounds.specs.CaseRooms.{IsCaseOf}
 use Rattle.leaf_bounds.proofs.Priced.{items-le}

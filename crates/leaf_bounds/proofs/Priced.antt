@@ -9,7 +9,7 @@ use Rattle.plan_model.specs.Bounds.{sum_below}
 use Rattle.plan_model.specs.Certificates.{on, passes, has_tam_at, HasTamTest}
 use Rattle.plan_model.proofs.CertificatesAreBounds.{some_place}
 use Rattle.pack_leaves.proofs.Sums.{differing-le}
-use Rattle.proof_model.specs.Proofs.{PricingValue}
+use Rattle.plan_model.specs.Proofs.{PricingValue}
 use Rattle.leaf_bounds.specs.PackLeaves.{ArePricedOnce, numbers_priced, place_called, priced_place}
 use Rattle.leaf_bounds.proofs.LeafAnswers.{wired_within}
 

@@ -6,9 +6,9 @@ use Rattle.soc_model.specs.Chips.{ModuleValue, SocValue, live_from}
 use Rattle.plan_model.specs.Operations.{ops_of}
 use Rattle.plan_model.specs.Plans.{LimitsValue}
 use Rattle.plan_model.specs.Bounds.{sum_below}
-use Rattle.packed_times.specs.Packed.{counting, averaging, beside, packed, packed_time, packed_tam_time}
-use Rattle.exclusions.specs.Exclusions.{leads, excludes}
-use Rattle.proof_model.specs.Proofs.{OfTurns, OfPower, WeightsValue}
+use Rattle.proof_facts.specs.Packed.{counting, averaging, beside, packed, packed_time, packed_tam_time}
+use Rattle.proof_facts.specs.Exclusions.{leads, excludes}
+use Rattle.plan_model.specs.Proofs.{OfTurns, OfPower, WeightsValue}
 use Rattle.leaf_bounds.specs.Cases.{interval, Case, root_case}
 use Rattle.leaf_bounds.specs.Lists.{least_together, names_exclude, counted}
 use Rattle.leaf_bounds.specs.Leaves.{slots_of, cost_of_all, worth_of_cycle, leaf_shows}

@@ -10,8 +10,8 @@ use Rattle.leaf_bounds.specs.declared.basis.Basis.{Basis}
 use Rattle.leaf_bounds.specs.declared.leaf_costs.Weighed.{Weighed}
 use Rattle.leaf_bounds.specs.Bases.{lists_of}
 use Rattle.leaf_bounds.specs.Lists.{room_of}
-use Rattle.proof_model.specs.Proofs.{ListValue, WeightsValue}
-use Rattle.proof_model.specs.Sayable.{AreWeights}
+use Rattle.plan_model.specs.Proofs.{ListValue, WeightsValue}
+use Rattle.plan_model.specs.Sayable.{AreWeights}
 use Rattle.leaf_bounds.specs.LeafCosts.{AreTotals, AreUses, IsMade, IsWeighed, all_weights, by_places, weighed_by}
 
 -- the sum over the first `n` places

@@ -9,7 +9,7 @@ use Rattle.plan_model.specs.Plans.{LimitsValue, power_of_id, smallest}
 use Rattle.plan_model.specs.Certificates.{on}
 use Rattle.plan_model.proofs.Sums.{sum_by-le_at}
 use Rattle.plan_model.proofs.SumsOverCycles.{sum_below-mono}
-use Rattle.proof_model.specs.Proofs.{ListValue, OfTurns, OfTurnsOn, OfCrowd, OfPower, WeightsValue}
+use Rattle.plan_model.specs.Proofs.{ListValue, OfTurns, OfTurnsOn, OfCrowd, OfPower, WeightsValue}
 use Rattle.leaf_bounds.specs.Cases.{Case, low_at, known_ranks, high_at}
 use Rattle.leaf_bounds.specs.Lists.{is_among, is_beside, counted, power_use, use_of}
 use Rattle.leaf_bounds.specs.Leaves.{rank_weight, weighed, Slot, slot, from_to, slots_at, rest_high, rest_slots, all_slots}

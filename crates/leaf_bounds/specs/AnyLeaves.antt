@@ -2,7 +2,7 @@
 use Rattle.std.specs.Prelude.{ℕ, List}
 use Rattle.soc_model.specs.Chips.{SocValue}
 use Rattle.plan_model.specs.Plans.{LimitsValue}
-use Rattle.proof_model.specs.Proofs.{ListValue, LeafValue, OfSum, OfPack}
+use Rattle.plan_model.specs.Proofs.{ListValue, LeafValue, OfSum, OfPack}
 use Rattle.leaf_bounds.specs.Cases.{Case}
 use Rattle.leaf_bounds.specs.Leaves.{IsSum, LeafHolds, leaf_shows}
 use Rattle.leaf_bounds.specs.PackLeaves.{IsPack, PackHolds}

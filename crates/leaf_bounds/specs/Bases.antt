@@ -7,7 +7,7 @@ use Rattle.plan_model.specs.Views.{limits_value}
 use Rattle.plan_model.specs.SoundLimits.{IsSoundLimits}
 use Rattle.plan_model.specs.Certificates.{has_tam_at, HasTamTest}
 use Rattle.leaf_bounds.specs.declared.basis.Basis.{Basis}
-use Rattle.proof_model.specs.Proofs.{ListValue, ProofValue, proof_value}
+use Rattle.plan_model.specs.Proofs.{ListValue, ProofValue, proof_value}
 use Rattle.leaf_bounds.specs.Takings.{bit_at}
 use Rattle.leaf_bounds.specs.ListTables.{IsListTable}
 use Rattle.leaf_bounds.specs.TestTables.{IsTestTable}

@@ -2,8 +2,8 @@
 use Rattle.std.specs.Prelude.{◌≡◌, ◌≤◌, Option, List, ℕ}
 use Rattle.soc_model.specs.Chips.{SocValue}
 use Rattle.plan_model.specs.Plans.{LimitsValue}
-use Rattle.packed_times.specs.Packed.{packed_tam_time}
-use Rattle.proof_model.specs.Proofs.{ListValue, WeightsValue}
+use Rattle.proof_facts.specs.Packed.{packed_tam_time}
+use Rattle.plan_model.specs.Proofs.{ListValue, WeightsValue}
 use Rattle.leaf_bounds.specs.Leaves.{slot, cost}
 
 -- where a module takes one time on two widths, it costs no less on the wider, at no lesser rate

@@ -7,7 +7,7 @@ use Rattle.leaf_bounds.specs.declared.leaf.LeafAnswer.{LeafAnswer}
 use Rattle.leaf_bounds.specs.declared.leaf.LeafAnswer.TheVariants.{Broken, Holds, Shows}
 use Rattle.leaf_bounds.specs.declared.leaf.LeafRoom.{LeafRoom}
 use Rattle.leaf_bounds.specs.declared.pack_room.PackRoom.{PackRoom}
-use Rattle.proof_model.specs.Proofs.{WeightsValue, LeafValue, weights_value}
+use Rattle.plan_model.specs.Proofs.{WeightsValue, LeafValue, weights_value}
 use Rattle.leaf_bounds.specs.LeafCosts.{HasSpaceFor}
 use Rattle.leaf_bounds.specs.Cases.{Case, Interval}
 use Rattle.leaf_bounds.specs.PackLeaves.{CELLS_MOST, WORK_MOST}

@@ -4,15 +4,15 @@ use Rattle.std.specs.List.{All, range_with_len, sum_by}
 use Rattle.soc_model.specs.Chips.{SocValue, LiveTest, live_tests}
 use Rattle.plan_model.specs.Plans.{LimitsValue}
 use Rattle.plan_model.specs.Certificates.{on}
-use Rattle.packed_times.specs.Packed.{packed_time}
+use Rattle.proof_facts.specs.Packed.{packed_time}
 use Rattle.leaf_bounds.specs.declared.leaf_costs.BesideUse.{BesideUse}
 use Rattle.leaf_bounds.specs.declared.leaf_costs.Weighed.{Weighed}
 use Rattle.leaf_bounds.specs.declared.list_table.ListTable.{ListTable}
 use Rattle.leaf_bounds.specs.declared.list_table.Role.{Role}
 use Rattle.leaf_bounds.specs.declared.list_table.Role.TheVariants.{Out, In, Beside, Drawing}
 use Rattle.leaf_bounds.specs.declared.basis.Basis.{Basis}
-use Rattle.proof_model.specs.Sayable.{AreWeights}
-use Rattle.proof_model.specs.Proofs.{ListValue, WeightsValue}
+use Rattle.plan_model.specs.Sayable.{AreWeights}
+use Rattle.plan_model.specs.Proofs.{ListValue, WeightsValue}
 use Rattle.leaf_bounds.specs.Lists.{IsNear, power_use, room_of, use_of}
 use Rattle.leaf_bounds.specs.ListTables.{role_at}
 use Rattle.leaf_bounds.specs.Leaves.{is_rank, weighed}

@@ -11,7 +11,7 @@ use Rattle.leaf_bounds.specs.declared.leaf_costs.BesideUse.{BesideUse}
 use Rattle.leaf_bounds.specs.declared.leaf_costs.Weighed.{Weighed}
 use Rattle.leaf_bounds.specs.declared.leaf_slots.RanksTried.{RanksTried}
 use Rattle.leaf_bounds.specs.declared.leaf_slots.WidthRange.{WidthRange}
-use Rattle.proof_model.specs.Proofs.{ListValue, WeightsValue}
+use Rattle.plan_model.specs.Proofs.{ListValue, WeightsValue}
 use Rattle.leaf_bounds.specs.Cases.{Case, known_ranks, low_at, high_at}
 use Rattle.leaf_bounds.specs.Leaves.{Slot, slot, rank_weight, rest_high, slots_of, is_short, cost, least_cost, HasNoBus, CostTooMuch, leaf_shows, cycles_shown, IsKnownList}
 use Rattle.leaf_bounds.specs.Bases.{chip_of, limits_of, lists_of, claim_of}

@@ -5,8 +5,8 @@ use Rattle.soc_model.specs.Chips.{SocValue}
 use Rattle.plan_model.specs.Plans.{LimitsValue, smallest}
 use Rattle.plan_model.specs.Bounds.{sum_below, sum_where, is_of, quotient_up}
 use Rattle.plan_model.specs.Certificates.{on, has_tam_at}
-use Rattle.packed_times.specs.Packed.{packed_time, packed_tam_time, self_test_time}
-use Rattle.proof_model.specs.Proofs.{ListValue, OfTurns, OfTurnsOn, OfCrowd, OfPower, WeightsValue}
+use Rattle.proof_facts.specs.Packed.{packed_time, packed_tam_time, self_test_time}
+use Rattle.plan_model.specs.Proofs.{ListValue, OfTurns, OfTurnsOn, OfCrowd, OfPower, WeightsValue}
 use Rattle.leaf_bounds.specs.Cases.{Case, known_ranks, low_at, high_at, spare, IsEmpty}
 use Rattle.leaf_bounds.specs.Lists.{room_of, use_of}
 

@@ -6,13 +6,13 @@ use Rattle.soc_model.specs.SoundChips.{IsSoundChip}
 use Rattle.plan_model.specs.Plans.{LimitsValue}
 use Rattle.plan_model.specs.Views.{limits_value}
 use Rattle.plan_model.specs.Rules.{Each, live_ids}
-use Rattle.exclusions.specs.Rows.{AreRowsOf}
+use Rattle.proof_facts.specs.Rows.{AreRowsOf}
 use Rattle.leaf_bounds.specs.declared.list_rules.ListRules.{ListRules}
 use Rattle.leaf_bounds.specs.declared.list_rules.TurnMarks.{TurnMarks}
 use Rattle.leaf_bounds.specs.declared.list_rules.CrowdMarks.{CrowdMarks}
 use Rattle.leaf_bounds.specs.declared.list_table.Role.{Role}
 use Rattle.leaf_bounds.specs.declared.list_table.Role.TheVariants.{Out, In, Beside}
-use Rattle.proof_model.specs.Proofs.{ListValue}
+use Rattle.plan_model.specs.Proofs.{ListValue}
 use Rattle.leaf_bounds.specs.Lists.{IsTurn, IsCrowdItem, KeepsList, excludes_all, is_among, least_power_of, least_together}
 use Rattle.leaf_bounds.specs.ListTables.{role_of}
 

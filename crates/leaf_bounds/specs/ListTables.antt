@@ -6,7 +6,7 @@ use Rattle.plan_model.specs.Rules.{IsFirstBreach}
 use Rattle.leaf_bounds.specs.declared.list_table.ListTable.{ListTable}
 use Rattle.leaf_bounds.specs.declared.list_table.Role.{Role}
 use Rattle.leaf_bounds.specs.declared.list_table.Role.TheVariants.{Out, In, Beside, Drawing}
-use Rattle.proof_model.specs.Proofs.{ListValue, OfTurns, OfTurnsOn, OfCrowd, OfPower}
+use Rattle.plan_model.specs.Proofs.{ListValue, OfTurns, OfTurnsOn, OfCrowd, OfPower}
 use Rattle.leaf_bounds.specs.Lists.{is_among, excludes_all, AreKept, KeptBehind}
 
 -- how a live test is in a list

@@ -7,9 +7,9 @@ use Rattle.plan_model.specs.Plans.{LimitsValue, of_first, power_of_id}
 use Rattle.plan_model.specs.Rules.{Each, IsNew, live_ids}
 use Rattle.plan_model.specs.Bounds.{sum_below}
 use Rattle.plan_model.specs.Certificates.{is_called}
-use Rattle.packed_times.specs.Packed.{rising}
-use Rattle.exclusions.specs.Exclusions.{least_power, excludes}
-use Rattle.proof_model.specs.Proofs.{ListValue, OfTurns, OfTurnsOn, OfCrowd, OfPower}
+use Rattle.proof_facts.specs.Packed.{rising}
+use Rattle.proof_facts.specs.Exclusions.{least_power, excludes}
+use Rattle.plan_model.specs.Proofs.{ListValue, OfTurns, OfTurnsOn, OfCrowd, OfPower}
 
 -- the test is named in the list
 abbrev pub is_among : List TestId → LiveTest → Bool

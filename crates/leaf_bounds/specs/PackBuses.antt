@@ -3,8 +3,8 @@ use Rattle.std.specs.Prelude.{◌≡◌, ◌≢◌, ℕ, ◌+◌, ◌-◌, ◌<�
 use Rattle.std.specs.List.{All}
 use Rattle.pack_leaves.specs.Knapsacks.{most_worth}
 use Rattle.pack_leaves.specs.Sharings.{IsMostShared}
-use Rattle.proof_model.specs.Proofs.{PricingValue, WeightsValue}
-use Rattle.proof_model.specs.Sayable.{ArePrices}
+use Rattle.plan_model.specs.Proofs.{PricingValue, WeightsValue}
+use Rattle.plan_model.specs.Sayable.{ArePrices}
 use Rattle.leaf_bounds.specs.declared.basis.Basis.{Basis}
 use Rattle.leaf_bounds.specs.declared.case.CaseRoom.{CaseRoom}
 use Rattle.leaf_bounds.specs.declared.leaf_costs.BesideUse.{BesideUse}

@@ -7,10 +7,10 @@ use Rattle.soc_model.specs.SoundChips.{AllDiffer}
 use Rattle.plan_model.specs.Plans.{LimitsValue}
 use Rattle.plan_model.specs.Bounds.{sum_below}
 use Rattle.plan_model.specs.Certificates.{on, HasTamTest}
-use Rattle.packed_times.specs.Packed.{packed_tam_time}
+use Rattle.proof_facts.specs.Packed.{packed_tam_time}
 use Rattle.pack_leaves.specs.Greatest.{IsGreatest}
 use Rattle.pack_leaves.specs.Knapsacks.{IsLoad, load_worth}
-use Rattle.proof_model.specs.Proofs.{ListValue, WeightsValue, PricingValue}
+use Rattle.plan_model.specs.Proofs.{ListValue, WeightsValue, PricingValue}
 use Rattle.leaf_bounds.specs.Cases.{Case, Interval, known_ranks, low_at, high_at, least_wires, IsEmpty}
 use Rattle.leaf_bounds.specs.Lists.{room_of}
 use Rattle.leaf_bounds.specs.Leaves.{Slot, slot, rest_high, is_short, module_use, self_use, weighed, HasNoBus, AreNamedLists}

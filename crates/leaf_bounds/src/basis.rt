@@ -6,7 +6,7 @@ ghost use Rattle.plan_model.specs.Views.{limits_value};
 ghost use Rattle.plan_model.specs.SoundLimits.{IsSoundLimits};
 ghost use Rattle.plan_model.specs.Certificates.{HasTamTest, has_tam_at};
 ghost use Rattle.live_tests.specs.Resolved.{IsResolved};
-ghost use Rattle.proof_model.specs.Proofs.{proof_value};
+ghost use Rattle.plan_model.specs.Proofs.{proof_value};
 ghost use Rattle.leaf_bounds.specs.Takings.{bit_at};
 ghost use Rattle.leaf_bounds.specs.Bases.{IsBasis, IsWiredAt, chip_of, limits_of, proof_of};
 
@@ -14,9 +14,8 @@ use crate::list_table::{ListTable, list_table};
 use crate::test_table::{TestTable, test_table};
 use live_tests::{Problem, Resolved};
 use outside::{NoMemory, push};
-use packed_times::PackedTimes;
-use plan_model::Limits;
-use proof_model::Proof;
+use plan_model::{Limits, Proof};
+use proof_facts::PackedTimes;
 use soc_model::{Soc, has_tam_test, module_at, place_of};
 use std::alloc::Global;
 

@@ -1,13 +1,13 @@
 //! Whether a leaf keeps its rule and holds, and what it shows.
 ghost use Rattle.std.specs.Prelude.{◌≡◌, ◌^◌, ◌≤◌, ℕ, IfOk, true, false, length, map};
 ghost use Rattle.std.specs.List.{All};
-ghost use Rattle.proof_model.specs.Proofs.{OfSum, list_value, weights_value};
+ghost use Rattle.plan_model.specs.Proofs.{OfSum, list_value, weights_value};
 ghost use Rattle.leaf_bounds.specs.Leaves.{IsKnownList};
 ghost use Rattle.leaf_bounds.specs.LeafCosts.{IsWeighed};
 ghost use Rattle.leaf_bounds.specs.LeafSlots.{IsNamed, IsWeighedAnswer};
 ghost use Rattle.leaf_bounds.specs.Cases.{Case};
 ghost use Rattle.leaf_bounds.specs.CaseRooms.{HasCase, IsCaseOf};
-ghost use Rattle.proof_model.specs.Sayable.{AreWeights};
+ghost use Rattle.plan_model.specs.Sayable.{AreWeights};
 ghost use Rattle.leaf_bounds.specs.Bases.{IsBasis, AllKept};
 ghost use Rattle.leaf_bounds.specs.LeafAnswers.{HasLeafSpace, IsCaseFor, IsLeafAnswer};
 
@@ -18,7 +18,7 @@ use crate::leaf_sums::{conclusion, sum_of_least, worth_of_cycle};
 use crate::pack_room::PackRoom;
 use crate::widths::{is_empty, known_ranks};
 use outside::NoMemory;
-use proof_model::{TestList, Weights};
+use plan_model::{TestList, Weights};
 use std::alloc::Global;
 
 /// What is found at a leaf.

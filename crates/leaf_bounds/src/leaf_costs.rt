@@ -7,7 +7,7 @@ ghost use Rattle.plan_model.specs.Bounds.{sum_below};
 ghost use Rattle.plan_model.specs.Plans.{power_of_id, step_power};
 ghost use Rattle.plan_model.specs.SoundLimits.{Grow};
 ghost use Rattle.plan_model.specs.Views.{limits_value};
-ghost use Rattle.proof_model.specs.Proofs.{WeightsValue};
+ghost use Rattle.plan_model.specs.Proofs.{WeightsValue};
 ghost use Rattle.leaf_bounds.specs.Lists.{IsNear, counted as the_counted, power_use as the_power_use, use_of};
 ghost use Rattle.leaf_bounds.specs.Leaves.{cost, is_rank as the_rank, self_use, slot, weighed};
 ghost use Rattle.leaf_bounds.specs.ListTables.{role_at as the_role};
@@ -19,8 +19,7 @@ use crate::list_table::{ListTable, Role};
 use crate::lists::{counted, room_of};
 use crate::test_table::{TestPlace, TestTable};
 use outside::NoMemory;
-use plan_model::Limits;
-use proof_model::TestList;
+use plan_model::{Limits, TestList};
 use soc_model::{Module, Test, module_at};
 use std::alloc::Global;
 

@@ -1,10 +1,10 @@
 //! The least cost of a module over the buses that it may be on in a case.
 ghost use Rattle.std.specs.Prelude.{◌≡◌, ◌≢◌, ◌⊎◌, ℕ, ◌+◌, ◌-◌, ◌*◌, ◌^◌, ◌<◌, ◌≤◌, true, Some, length, nat_lt, IfSome};
 ghost use Rattle.std.specs.List.{All};
-ghost use Rattle.packed_times.specs.Packed.{packed_tam_time, self_test_time};
-ghost use Rattle.proof_model.specs.declared.TheConstants.{WEIGHT_MOST};
-ghost use Rattle.proof_model.specs.Proofs.{WeightsValue, weights_value};
-ghost use Rattle.proof_model.specs.Sayable.{AreWeights};
+ghost use Rattle.proof_facts.specs.Packed.{packed_tam_time, self_test_time};
+ghost use Rattle.plan_model.specs.declared.proof.TheConstants.{WEIGHT_MOST};
+ghost use Rattle.plan_model.specs.Proofs.{WeightsValue, weights_value};
+ghost use Rattle.plan_model.specs.Sayable.{AreWeights};
 ghost use Rattle.leaf_bounds.specs.Cases.{Case, known_ranks};
 ghost use Rattle.leaf_bounds.specs.Bits.{HasPlace};
 ghost use Rattle.leaf_bounds.specs.CaseRooms.{HasCase, IsCaseOf};
@@ -22,7 +22,7 @@ use crate::leaf_costs::{BesideUse, Weighed, module_cost, rated};
 use crate::places::{Placing, may_be_on};
 use crate::ranks::is_left;
 use crate::widths::{interval_at, known_ranks, spare_wires};
-use proof_model::Weights;
+use plan_model::Weights;
 
 /// The buses of one rank, where it is known, on each width of a range, in wires.
 #[derive(Clone, Copy)]

@@ -2,8 +2,8 @@
 ghost use Rattle.std.specs.Prelude.{◌≡◌, ◌*◌, ◌^◌, ◌<◌, ◌≤◌, length, sum, IfSome};
 ghost use Rattle.std.specs.List.{All};
 ghost use Rattle.plan_model.specs.Certificates.{has_tam_at};
-ghost use Rattle.proof_model.specs.Proofs.{weights_value};
-ghost use Rattle.proof_model.specs.Sayable.{AreWeights, IsWeight};
+ghost use Rattle.plan_model.specs.Proofs.{weights_value};
+ghost use Rattle.plan_model.specs.Sayable.{AreWeights, IsWeight};
 ghost use Rattle.leaf_bounds.specs.Cases.{Case};
 ghost use Rattle.leaf_bounds.specs.CaseRooms.{HasCase, IsCaseOf};
 ghost use Rattle.leaf_bounds.specs.Leaves.{worth_of_cycle};
@@ -18,7 +18,7 @@ use crate::leaf::LeafAnswer;
 use crate::leaf_costs::Weighed;
 use crate::leaf_slots::least_cost;
 use crate::widths::spare_wires;
-use proof_model::Weights;
+use plan_model::Weights;
 
 /// Whether the module at a place has a test over the wires.
 fn is_wired(basis: &Basis<'_>, place: usize) -> bool

@@ -7,11 +7,10 @@ ghost use Rattle.soc_model.specs.declared.Test.{Test};
 ghost use Rattle.leaf_bounds.specs.Takings.{bit_at};
 ghost use Rattle.leaf_bounds.specs.ListRules.{AreCrowdMarks, AreHeavy, AreTurnMarks, IsListRules, MemberAdded, MembersMarked, TurnAdded, TurnsMarked, both_marked, chip_ruled, limits_ruled};
 
-use exclusions::ExclusionRows;
 use live_tests::{LiveTests, Problem};
 use outside::{NoMemory, push};
-use packed_times::sorted_lengths;
 use plan_model::Limits;
+use proof_facts::{ExclusionRows, sorted_lengths};
 use soc_model::{Module, Soc, TestId, live, module_at};
 use std::alloc::Global;
 

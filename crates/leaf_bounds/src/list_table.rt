@@ -3,7 +3,7 @@ ghost use Rattle.std.specs.Prelude.{◌≡◌, ◌++◌, ℕ, Bool, List, length
 ghost use Rattle.std.specs.List.{flat_map};
 ghost use Rattle.soc_model.specs.declared.TestId.{TestId};
 ghost use Rattle.leaf_bounds.specs.declared.list_table.Role.TheVariants.{Drawing};
-ghost use Rattle.proof_model.specs.Proofs.{OfCrowd, OfPower, OfTurns, OfTurnsOn, list_value};
+ghost use Rattle.plan_model.specs.Proofs.{OfCrowd, OfPower, OfTurns, OfTurnsOn, list_value};
 ghost use Rattle.leaf_bounds.specs.ListRules.{AreTurnMarks, IsListRules, ListAdded, chip_ruled, limits_ruled, member_role, roles_in, turn_role as the_turn_role};
 ghost use Rattle.leaf_bounds.specs.ListTables.{IsListTable, KeepFirst};
 
@@ -11,7 +11,7 @@ use crate::list_rules::{ListRules, TurnMarks, are_heavy, crowd_marks, turn_marks
 use crate::lists::is_near;
 use live_tests::Problem;
 use outside::{NoMemory, push};
-use proof_model::TestList;
+use plan_model::TestList;
 use soc_model::TestId;
 use std::alloc::Global;
 

@@ -2,10 +2,9 @@
 ghost use Rattle.std.specs.Prelude.{◌≡◌, ◌≤◌, true, false};
 ghost use Rattle.plan_model.specs.Views.{limits_value};
 ghost use Rattle.leaf_bounds.specs.Lists.{IsNear, counted, room_of};
-ghost use Rattle.proof_model.specs.Proofs.{list_value};
+ghost use Rattle.plan_model.specs.Proofs.{list_value};
 
-use plan_model::Limits;
-use proof_model::TestList;
+use plan_model::{Limits, TestList};
 
 /// Whether there is a limit of power of at least 1, and a number is at most half of it.
 pub(crate) fn is_near(limits: &Limits, near: u64) -> bool

@@ -1,7 +1,7 @@
 //! Whether a leaf of prices keeps its rule and holds.
 ghost use Rattle.std.specs.Prelude.{◌≡◌, ◌+◌, ◌*◌, ◌^◌, ◌<◌, ◌≤◌, ℕ, true, false, max, length};
-ghost use Rattle.proof_model.specs.Proofs.{OfPack, PricingValue, WeightsValue, pricing_value, weights_value};
-ghost use Rattle.proof_model.specs.Sayable.{ArePrices};
+ghost use Rattle.plan_model.specs.Proofs.{OfPack, PricingValue, WeightsValue, pricing_value, weights_value};
+ghost use Rattle.plan_model.specs.Sayable.{ArePrices};
 ghost use Rattle.leaf_bounds.specs.Cases.{Case, IsEmpty};
 ghost use Rattle.leaf_bounds.specs.CaseRooms.{HasCase, IsCaseOf};
 ghost use Rattle.leaf_bounds.specs.Bases.{IsBasis, AllKept, chip_of, limits_of, lists_of, claim_of};
@@ -20,7 +20,7 @@ use crate::pack_buses::most_filled;
 use crate::pack_room::{PACK_CELLS_MOST, PACK_WORK_MOST, PackRoom};
 use crate::pack_rules::{are_priced_once, cells_of, work_in};
 use crate::widths::{is_empty, known_ranks};
-use proof_model::Pricing;
+use plan_model::Pricing;
 
 /// All prices of a leaf together.
 fn price_sum(pricing: &Pricing) -> u64

@@ -1,7 +1,7 @@
 //! What modules are worth on the buses of a case, at the prices of a leaf.
 ghost use Rattle.std.specs.Prelude.{◌≡◌, ◌+◌, ◌-◌, ◌*◌, ◌/◌, ◌^◌, ◌<◌, ◌≤◌, ℕ, true, None, IfSome, length, replicate, slice_index};
-ghost use Rattle.proof_model.specs.Proofs.{PricingValue, WeightsValue, pricing_value};
-ghost use Rattle.proof_model.specs.Sayable.{ArePrices};
+ghost use Rattle.plan_model.specs.Proofs.{PricingValue, WeightsValue, pricing_value};
+ghost use Rattle.plan_model.specs.Sayable.{ArePrices};
 ghost use Rattle.pack_leaves.specs.Knapsacks.{with_item};
 ghost use Rattle.leaf_bounds.specs.Cases.{Case, IsEmpty, spare};
 ghost use Rattle.leaf_bounds.specs.CaseRooms.{HasCase, IsCaseOf};
@@ -21,8 +21,8 @@ use crate::places::{Placing, may_be_on};
 use crate::ranks::is_left;
 use crate::widths::{interval_at, known_ranks, spare_wires};
 use pack_leaves::{add_item, add_rank, clear_row, fill_rest};
-use packed_times::packed_times_are_least;
-use proof_model::Pricing;
+use plan_model::Pricing;
+use proof_facts::packed_times_are_least;
 
 /// A bus by its rank, with its width in wires. A rank that isn't known is of the rest.
 #[derive(Clone, Copy)]

@@ -1,7 +1,7 @@
 //! The rule of a leaf of prices: its modules, the cells of a bus, and how much is to be worked out.
 ghost use Rattle.std.specs.Prelude.{◌≡◌, ◌+◌, ◌*◌, ◌^◌, ◌<◌, ◌≤◌, ℕ, true, false, None, IfSome, length, slice_index};
 ghost use Rattle.std.specs.List.{sum_by};
-ghost use Rattle.proof_model.specs.Proofs.{PricingValue, pricing_value};
+ghost use Rattle.plan_model.specs.Proofs.{PricingValue, pricing_value};
 ghost use Rattle.leaf_bounds.specs.Bases.{IsBasis, chip_of};
 ghost use Rattle.leaf_bounds.specs.Cases.{Case};
 ghost use Rattle.leaf_bounds.specs.CaseRooms.{HasCase, IsCaseOf};
@@ -12,7 +12,7 @@ use crate::basis::{Basis, wired_place};
 use crate::case::CaseRoom;
 use crate::leaf_slots::rest_high;
 use crate::widths::{Interval, Widths, interval_at, known_ranks};
-use proof_model::Pricing;
+use plan_model::Pricing;
 
 /// The cells of a bus: those that the cycles below the claim fill.
 pub(crate) fn cells_of(claim: u64, grain: u64) -> u64

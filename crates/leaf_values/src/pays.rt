@@ -2,9 +2,8 @@
 
 use case_tables::{ChipTables, LISTS_MOST, ListForm, Lists, RANKS_MOST};
 use outside::NoMemory;
-use search_numbers::fill_items;
 use std::alloc::Global;
-use tables::{NONE, filled, item_or, put_item};
+use tables::{NONE, fill_items, filled, item_or, put_item};
 
 /// What tests pay for each unit of their use of lists.
 #[derive(Drop)]

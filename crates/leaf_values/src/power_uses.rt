@@ -3,9 +3,8 @@
 use crate::power::power_use;
 use case_tables::{ChipTables, Lists};
 use outside::{NoMemory, push};
-use search_numbers::short_share;
 use std::alloc::Global;
-use tables::item_or;
+use tables::{item_or, short_share};
 
 /// Uses in the table, at most, where it is of more lists than one.
 const USES_MOST: usize = 1 << 22;

@@ -4,9 +4,8 @@
 
 use case_tables::{Case, ChipTables, RANGES_MOST, REST};
 use outside::{NoMemory, push};
-use search_numbers::{share_of, short_share};
 use std::alloc::Global;
-use tables::{filled, item_or, put_item};
+use tables::{filled, item_or, put_item, share_of, short_share};
 
 /// A width at which the time of a module falls.
 #[derive(Clone, Copy)]

@@ -4,9 +4,8 @@
 use crate::finding::ListSearch;
 use case_tables::{ChipTables, ChosenLists, ListForm, Lists};
 use outside::{NoMemory, copied};
-use search_numbers::{mark_place, marked};
 use std::alloc::Global;
-use tables::{NONE, filled, item_or, put_item};
+use tables::{NONE, filled, item_or, mark_place, marked, put_item};
 
 /// The numbers of two modules.
 #[derive(Clone, Copy)]

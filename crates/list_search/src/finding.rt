@@ -1,11 +1,10 @@
 //! Finds lists of tests that a mix of slots passes.
 
+use crate::{Cliques, Crowds, MixedPowers};
 use case_tables::{ChipTables, ChosenLists, ListForm, Lists, Mix};
 use outside::{NoMemory, both};
-use search_numbers::{fill_items, mark_place, sum_of_marked};
 use std::alloc::Global;
-use tables::{filled, item_or, put_item};
-use test_cliques::{Cliques, Crowds, MixedPowers};
+use tables::{fill_items, filled, item_or, mark_place, put_item, sum_of_marked};
 
 /// How many steps the search for a list of turns takes at most.
 const TURNS_STEPS: usize = 20_000;

@@ -5,8 +5,14 @@
 //! found are added to the lists of the proof, and chosen. No clause promises more than that each call is safe and ends.
 #![tactic(auto)]
 
+mod cliques;
+mod crowds;
 mod elementary;
 mod finding;
+mod graph;
+mod levels;
 
+pub use cliques::Cliques;
+pub use crowds::{Crowds, MixedPowers};
 pub use elementary::add_elementary_lists;
 pub use finding::ListSearch;

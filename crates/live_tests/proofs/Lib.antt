@@ -15,3 +15,6 @@ pub mod FoundWrappers
 pub mod FirstWires
 pub mod CountedBack
 pub mod FoundPlaced
+pub mod Balance
+pub mod Sweeping
+pub mod Reading

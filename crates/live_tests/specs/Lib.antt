@@ -10,3 +10,5 @@ pub mod Parents
 pub mod Resolved
 pub mod Problems
 pub mod PlacedPlans
+pub mod Events
+pub mod Loads

@@ -1,37 +1,25 @@
-//! Fractions of 36 binary places in 64 bits. What is too great is cut off.
+//! What a programme makes of fractions. What is too great is cut off.
 
-/// A whole.
-pub const UNIT: i64 = 1 << 36;
-/// The half of the last place that a product drops.
-const HALF: i128 = 1 << 35;
+use tables::{FRACTION_PLACES, cut_off, wide_product};
+
 /// The lower half of a wide number.
 const LOWER: u128 = (1 << 64) - 1;
 /// Where a product of two fractions is less than this, it fits into 64 bits.
 const FITS: i128 = 1 << 98;
-
-/// A wide number cut off so that it is a fraction.
-fn cut_off(wide: i128) -> i64 {
-    i64::try_from(wide).unwrap_or(if wide < 0 { -i64::MAX } else { i64::MAX })
-}
 
 /// The lower 64 bits of a wide number.
 fn lower(wide: i128) -> i64 {
     ((wide.cast_unsigned() & LOWER) as u64).cast_signed()
 }
 
-/// The product of two fractions, in 128 bits.
-fn product(a: i64, b: i64) -> i128 {
-    i128::from(a).wrapping_mul(i128::from(b)).wrapping_add(HALF) >> 36
-}
-
 /// A fraction less the product of two others.
 pub(crate) fn less_product(from: i64, a: i64, b: i64) -> i64 {
-    cut_off(i128::from(from).wrapping_sub(product(a, b)))
+    cut_off(i128::from(from).wrapping_sub(wide_product(a, b)))
 }
 
 /// A fraction less the product of two others, where the product fits into 64 bits.
 pub(crate) fn less_small_product(from: i64, a: i64, b: i64) -> i64 {
-    from.saturating_sub(lower(product(a, b)))
+    from.saturating_sub(lower(wide_product(a, b)))
 }
 
 /// Whether the product of a fraction and one of at most `most`, which is at least 0, fits into 64 bits.
@@ -44,7 +32,7 @@ pub(crate) fn quotient(a: i64, b: i64) -> i64 {
     if a == 0 {
         return 0;
     }
-    let twice = (i128::from(a) << 37)
+    let twice = (i128::from(a) << (FRACTION_PLACES + 1))
         .checked_div(i128::from(b))
         .unwrap_or(0);
     let nearer = if (a < 0) == (b < 0) { 1 } else { -1 };

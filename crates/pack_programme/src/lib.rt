@@ -17,5 +17,4 @@ mod ratios;
 mod tableau;
 mod written;
 
-pub use fractions::UNIT;
 pub use programme::Programme;

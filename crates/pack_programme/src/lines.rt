@@ -3,38 +3,7 @@
 use crate::fractions::{has_small_products, less_product, less_small_product, quotient};
 use outside::NoMemory;
 use std::alloc::Global;
-use tables::{filled, item_or, put_item};
-
-/// `count` items of a list from a place on; none where they aren't there.
-pub(crate) fn part(list: &[i64], start: usize, count: usize) -> &[i64] {
-    if count > list.len() || start > list.len() - count {
-        return &list[0..0];
-    }
-    &list[start..start + count]
-}
-
-/// A part of a list, to be written; empty where the list has no such part.
-pub(crate) fn part_mut(list: &mut [i64], start: usize, count: usize) -> &mut [i64] {
-    if count > list.len() || start > list.len() - count {
-        return &mut list[0..0];
-    }
-    &mut list[start..start + count]
-}
-
-/// Writes 0 all over a list.
-pub(crate) fn clear_list(list: &mut [i64]) {
-    for place in 0..list.len() {
-        list[place] = 0;
-    }
-}
-
-/// Copies as much of a list as both have.
-pub(crate) fn copy_list(to: &mut [i64], from: &[i64]) {
-    let count = to.len().min(from.len());
-    for place in 0..count {
-        to[place] = from[place];
-    }
-}
+use tables::{copy_items, filled, item_or, part, put_item};
 
 /// Copies `count` items of a list from one place on to another place on.
 pub(crate) fn move_part(list: &mut [i64], from: usize, to: usize, count: usize) {
@@ -97,7 +66,7 @@ impl Line {
     /// Takes a row.
     pub fn take(&mut self, row: &[i64]) {
         self.count = row.len();
-        copy_list(&mut self.numbers, row);
+        copy_items(&mut self.numbers, row);
         self.most = most_of(row);
     }
 

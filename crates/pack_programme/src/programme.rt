@@ -1,12 +1,11 @@
 //! A programme that grows, and the steps to its greatest sum.
 
 use crate::basis::{Basis, Place};
-use crate::lines::{clear_list, part};
 use crate::tableau::Tableau;
 use crate::written::WrittenRows;
 use outside::{NoMemory, both};
 use std::alloc::Global;
-use tables::{filled, item_or, put_item};
+use tables::{fill_items, filled, item_or, part, put_item};
 
 /// Dual steps of one call, at most.
 const DUAL_STEPS: usize = 1_000;
@@ -93,7 +92,7 @@ impl Programme {
 
     /// Forgets the row that is being written.
     pub fn clear_draft(&mut self) {
-        clear_list(&mut self.draft);
+        fill_items(&mut self.draft, 0);
     }
 
     /// Writes a coefficient of the row that is being written.

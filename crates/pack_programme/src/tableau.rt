@@ -3,12 +3,12 @@
 //! An unknown is a variable, or the slack of a row: how much its sum is below its right side. In a basis each row of the tableau has
 //! an unknown of its own, which is its right side less its numbers times the unknowns of the columns. These are 0.
 
-use crate::fractions::{UNIT, less_product, quotient};
-use crate::lines::{Line, clear_list, copy_list, move_part, part, part_mut};
+use crate::fractions::{less_product, quotient};
+use crate::lines::{Line, move_part};
 use crate::ratios::{Ratio, lesser, place_of};
 use outside::{NoMemory, both};
 use std::alloc::Global;
-use tables::{filled, item_or, put_item};
+use tables::{UNIT, copy_items, fill_items, filled, item_or, part, part_mut, put_item};
 
 /// A right side below 0 by more than this calls for a dual step.
 const BELOW: i64 = 16;
@@ -99,7 +99,7 @@ impl Tableau {
     pub fn push(&mut self, numbers: &[i64], right: i64) {
         let start = self.start(self.rows);
         let own = part_mut(&mut self.numbers, start, self.columns);
-        copy_list(own, numbers);
+        copy_items(own, numbers);
         put_item(&mut self.right, self.rows, right);
         self.rows = self.rows.saturating_add(1);
     }
@@ -107,7 +107,7 @@ impl Tableau {
     /// Adds a row of no numbers.
     pub fn push_empty(&mut self, right: i64) {
         let start = self.start(self.rows);
-        clear_list(part_mut(&mut self.numbers, start, self.columns));
+        fill_items(part_mut(&mut self.numbers, start, self.columns), 0);
         put_item(&mut self.right, self.rows, right);
         self.rows = self.rows.saturating_add(1);
     }
@@ -173,7 +173,7 @@ impl Tableau {
             }
         }
         self.clear_cost(column);
-        copy_list(
+        copy_items(
             part_mut(&mut self.numbers, start, self.columns),
             self.line.numbers(),
         );

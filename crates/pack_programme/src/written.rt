@@ -1,9 +1,9 @@
 //! The rows of a programme as they were given.
 
-use crate::lines::{copy_list, move_part, part, part_mut};
+use crate::lines::move_part;
 use outside::{NoMemory, both};
 use std::alloc::Global;
-use tables::{NONE, filled, item_or, put_item};
+use tables::{NONE, copy_items, filled, item_or, part, part_mut, put_item};
 
 /// Rows of coefficients, each with its right side and its tag.
 #[derive(Drop)]
@@ -59,7 +59,7 @@ impl WrittenRows {
     pub fn push(&mut self, coefficients: &[i64], right: i64, tag: usize) {
         let start = self.count.saturating_mul(self.columns);
         let own = part_mut(&mut self.coefficients, start, self.columns);
-        copy_list(own, coefficients);
+        copy_items(own, coefficients);
         put_item(&mut self.right, self.count, right);
         put_item(&mut self.tags, self.count, tag);
         self.count = self.count.saturating_add(1);

@@ -8,9 +8,9 @@ use crate::warm::Warm;
 use crate::whole::{NO_RATIO, Ratio, ratio_of, scale_of, write_weighed, write_whole};
 use crate::worst::Worst;
 use outside::{NoMemory, both};
-use pack_programme::UNIT;
 use pack_values::{PackCase, PackRoom, Prices, Uses};
 use std::alloc::Global;
+use tables::UNIT;
 
 /// Rounds of an attempt, at most.
 const ROUNDS_MOST: usize = 250;

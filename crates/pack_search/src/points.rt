@@ -3,10 +3,9 @@
 use crate::listing::{LISTS_MOST, Listing};
 use crate::warm::Warm;
 use outside::NoMemory;
-use pack_programme::UNIT;
 use pack_values::Prices;
 use std::alloc::Global;
-use tables::{NONE, filled, item_or, put_item};
+use tables::{NONE, UNIT, copy_items, fill_items, filled, item_or, put_item};
 
 /// Prices of modules and worths of lists, in parts of `UNIT`: about a whole is what all buses and lists are worth together.
 #[derive(Drop)]
@@ -15,20 +14,6 @@ pub(crate) struct Point {
     prices: Vec<i64>,
     /// The worth of each list of the attempt.
     worths: Vec<i64>,
-}
-
-/// Makes each of some numbers 0.
-fn wipe(list: &mut [i64]) {
-    for place in 0..list.len() {
-        list[place] = 0;
-    }
-}
-
-/// Copies as much of a list as both have.
-fn copy_list(to: &mut [i64], from: &[i64]) {
-    for place in 0..to.len().min(from.len()) {
-        to[place] = from[place];
-    }
 }
 
 /// Writes the means of two lists, as much as all have.
@@ -57,14 +42,14 @@ impl Point {
 
     /// Makes all prices and worths 0.
     pub fn clear_point(&mut self) {
-        wipe(&mut self.prices);
-        wipe(&mut self.worths);
+        fill_items(&mut self.prices, 0);
+        fill_items(&mut self.worths, 0);
     }
 
     /// Becomes another point.
     pub fn copy_point(&mut self, other: &Point) {
-        copy_list(&mut self.prices, &other.prices);
-        copy_list(&mut self.worths, &other.worths);
+        copy_items(&mut self.prices, &other.prices);
+        copy_items(&mut self.worths, &other.worths);
     }
 
     /// Becomes the point half way between two.

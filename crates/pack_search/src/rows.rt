@@ -2,9 +2,8 @@
 
 use crate::module_set::ModuleSet;
 use crate::scheme::Scheme;
-use pack_programme::UNIT;
 use pack_values::{PackCase, PackRoom, Uses};
-use tables::NONE;
+use tables::{FRACTION_PLACES, NONE, UNIT};
 
 /// A coefficient of a row is at most this.
 const PART_MOST: i64 = 1 << 56;
@@ -22,7 +21,7 @@ fn part_of(number: u64, whole: u64) -> i64 {
 
 /// A part of a worth.
 fn times(worth: i64, part: i64) -> i64 {
-    let product = i128::from(worth).wrapping_mul(i128::from(part)) >> 36;
+    let product = i128::from(worth).wrapping_mul(i128::from(part)) >> FRACTION_PLACES;
     i64::try_from(product).unwrap_or(i64::MAX)
 }
 

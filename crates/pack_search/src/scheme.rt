@@ -7,10 +7,10 @@ use crate::module_set::ModuleSet;
 use crate::points::Point;
 use crate::warm::Warm;
 use outside::{NoMemory, both};
-use pack_programme::{Programme, UNIT};
+use pack_programme::Programme;
 use pack_values::PackCase;
 use std::alloc::Global;
-use tables::{NONE, filled, item_or, put_item};
+use tables::{NONE, UNIT, filled, item_or, put_item};
 
 /// Rows that a round adds, at most.
 pub(crate) const ADDED_MOST: usize = 20;

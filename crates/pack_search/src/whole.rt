@@ -3,7 +3,7 @@
 use crate::listing::Listing;
 use crate::points::Point;
 use pack_values::Prices;
-use tables::{NONE, item_or};
+use tables::{FRACTION_PLACES, NONE, item_or};
 
 /// The scale of whole prices, at most.
 const SCALE_MOST: u64 = 1 << 44;
@@ -47,7 +47,7 @@ pub(crate) fn scale_of(lists: &Listing) -> u64 {
 fn whole_of(part: i64, scale: u64) -> u64 {
     let parts = u128::from(u64::try_from(part).unwrap_or(0));
     let product = parts.saturating_mul(u128::from(scale));
-    u64::try_from(product >> 36).unwrap_or(u64::MAX)
+    u64::try_from(product >> FRACTION_PLACES).unwrap_or(u64::MAX)
 }
 
 /// The weight of a list of this worth.

@@ -1,7 +1,8 @@
 //! Small programmes whose answers were worked out by hand.
 
-use pack_programme::{Programme, UNIT};
+use pack_programme::Programme;
 use std::test::Fail;
+use tables::UNIT;
 
 /// Whether a number is a fraction of UNIT, but for what rounding takes.
 fn is_near(number: i64, over: i64, under: i64) -> bool {

@@ -1,9 +1,8 @@
 //! A case of a proof as plain tables: the times of the modules, the widths of the known ranks, and who may be where.
 
-use crate::marks::{marked, set_mark, wipe, words_for};
 use outside::{NoMemory, both};
 use std::alloc::Global;
-use tables::{filled, item_or, put_item};
+use tables::{fill_items, filled, item_or, marked, put_item, set_mark, words_for};
 
 /// The mark of the rest among ranks: the buses whose ranks aren't known.
 pub const REST: usize = 256;
@@ -102,7 +101,7 @@ impl PackCase {
         self.known = known.min(REST);
         self.spare = spare.min(self.wires);
         self.rest_high = rest_high.min(self.wires);
-        wipe(&mut self.may);
+        fill_items(&mut self.may, 0);
         for rank in 0..self.known {
             self.set_rank(rank, 0, 0);
         }

@@ -1,12 +1,11 @@
 //! Ranks on which a bus of a width is worth the same: the same modules with a price may be there, and no list turns on one of them.
 
 use crate::cases::{PackCase, RANGES_MOST, REST};
-use crate::marks::{marked, set_mark, words_for};
 use crate::prices::Prices;
 use crate::uses::Uses;
 use outside::{NoMemory, both};
 use std::alloc::Global;
-use tables::{filled, item_or, put_item};
+use tables::{filled, item_or, marked, put_item, set_mark, words_for};
 
 /// The groups of the ranges of a case: a range is a known rank, at its place, or the rest, behind them.
 #[derive(Drop)]

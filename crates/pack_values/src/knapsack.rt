@@ -2,12 +2,11 @@
 ghost use Rattle.std.specs.Prelude.{◌≡◌, ◌<◌, ◌≤◌, length};
 
 use crate::greedy::{Charge, Fate, charge_of, cut_of, reached};
-use crate::marks::marked;
 use crate::offers::{NO_ITEM, PackItem};
 use crate::terms::{CELLS_MOST, Terms};
 use outside::{NoMemory, both};
 use std::alloc::Global;
-use tables::{filled, item_or, put_item};
+use tables::{filled, item_or, marked, put_item};
 
 /// The words of a row of marks of cells.
 const CELL_WORDS: usize = 65;

@@ -17,7 +17,6 @@ mod greedy;
 mod groups;
 mod knapsack;
 mod leaf;
-mod marks;
 mod offers;
 mod prices;
 mod room;

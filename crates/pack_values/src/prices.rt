@@ -1,9 +1,8 @@
 //! Prices of modules and weights of lists.
 
-use crate::marks::wipe;
 use outside::{NoMemory, both};
 use std::alloc::Global;
-use tables::{filled, item_or, put_item};
+use tables::{fill_items, filled, item_or, put_item};
 
 /// The most lists that have a weight.
 const LISTS_MOST: usize = 256;
@@ -49,7 +48,7 @@ impl Prices {
     /// Makes all prices 0, and forgets the lists.
     pub fn clear_prices(&mut self) {
         self.count = 0;
-        wipe(&mut self.modules);
+        fill_items(&mut self.modules, 0);
     }
 
     /// Makes the prices and weights those of another one for as many modules.

@@ -1,11 +1,10 @@
 //! Sets of modules that were found, with the ranks and widths that they are the best on.
 
 use crate::cases::RANGES_MOST;
-use crate::marks::{marked, set_mark, words_for};
 use crate::offers::PackItem;
 use outside::{NoMemory, both};
 use std::alloc::Global;
-use tables::{NONE, filled, item_or, put_item};
+use tables::{NONE, filled, item_or, marked, put_item, set_mark, words_for};
 
 /// The most sets that are kept.
 const SETS_MOST: usize = 4096;

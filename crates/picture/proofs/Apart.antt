@@ -12,7 +12,7 @@ use Rattle.plan_model.specs.Right.{IsAt}
 use Rattle.plan_model.specs.Rules.{IsGood, Power}
 use Rattle.plan_model.proofs.Sums.{at_most_one}
 use Rattle.plan_model.proofs.TestsInGoodPlans.{OnBus, on_bus, apart}
-use Rattle.power_events.specs.Loads.{changes}
+use Rattle.live_tests.specs.Loads.{changes}
 use Rattle.live_tests.specs.Placed.{bus_over, placed_of, placed_tests}
 use Rattle.picture.specs.Laws.{AreApart, ShowsUse, StaysWithin}
 use Rattle.picture.specs.PictureText.{plan_steps}

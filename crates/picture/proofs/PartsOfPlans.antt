@@ -12,8 +12,8 @@ use Rattle.plan_model.proofs.Greatest.{le-greatest_at}
 use Rattle.plan_model.proofs.Sums.{sum_by-filter}
 use Rattle.live_tests.specs.declared.placed.PlacedTest.{PlacedTest}
 use Rattle.live_tests.specs.Placed.{placed_of, placed_tests}
-use Rattle.power_events.specs.Events.{HasSteps, profile_place, steps_from}
-use Rattle.power_events.specs.Loads.{drawn, drawn_by, load_steps}
+use Rattle.live_tests.specs.Events.{HasSteps, profile_place, steps_from}
+use Rattle.live_tests.specs.Loads.{drawn, drawn_by, load_steps}
 use Rattle.picture.specs.declared.Parts.{Parts}
 use Rattle.picture.specs.declared.sections.BoundMark.{BoundMark}
 use Rattle.picture.specs.Laws.{AreParts}

@@ -3,7 +3,7 @@ use Rattle.std.specs.Prelude.{ℕ, ◌+◌, ◌-◌, Bool, true, false, Option, 
 use Rattle.std.specs.List.{filter, flat_map}
 use Rattle.soc_model.specs.Chips.{SocValue}
 use Rattle.plan_model.specs.Plans.{PlanValue, LimitsValue, planned, power_at}
-use Rattle.power_events.specs.Loads.{load_steps}
+use Rattle.live_tests.specs.Loads.{load_steps}
 use Rattle.live_tests.specs.declared.placed.PlacedTest.{PlacedTest}
 use Rattle.live_tests.specs.Placed.{placed_tests}
 use Rattle.picture.specs.declared.panels.Panel.{Panel}

@@ -1,7 +1,7 @@
 //! Draws a plan as a picture: one SVG image, with the wires from top to bottom and the cycles from left to right.
 //!
 //! Its text is by its definition, and a wire is drawn at exactly the cycles at which the run of a good plan uses it. The tests
-//! are those of `live_tests`, what they draw that of `power_events`. The only error is out of memory.
+//! are those of `live_tests`, and so is what they draw. The only error is out of memory.
 #![tactic(auto)]
 
 ghost use Rattle.std.specs.Prelude.{◌≡◌, ℕ, ◌+◌, ◌^◌, ◌≤◌, ◌++◌, List, Some, slice_get, IfOk, OnOk};
@@ -11,8 +11,8 @@ ghost use Rattle.plan_model.specs.Rules.{IsGood};
 ghost use Rattle.plan_model.specs.SoundLimits.{IsSoundLimits};
 ghost use Rattle.plan_model.specs.Views.{limits_value, plan_value};
 ghost use Rattle.live_tests.specs.declared.placed.PlacedTest.{PlacedTest as the_placed};
-ghost use Rattle.power_events.specs.Events.{HasSteps};
-ghost use Rattle.power_events.specs.Loads.{drawn_by, load_steps};
+ghost use Rattle.live_tests.specs.Events.{HasSteps};
+ghost use Rattle.live_tests.specs.Loads.{drawn_by, load_steps};
 ghost use Rattle.picture.specs.Laws.{AreParts, AreTestsOf};
 ghost use Rattle.picture.specs.PictureText.{bottom_of as the_bottom, inner_text, picture_of_claim, picture_text, picture_with, wires_text};
 ghost use Rattle.picture.specs.Rectangles.{between, wired as the_wired};
@@ -26,12 +26,11 @@ mod scale;
 mod sections;
 
 pub use laws::good_plans_draw_right;
-use live_tests::{PlacedPlan, PlacedTest, first_wires};
+use live_tests::{PlacedPlan, PlacedTest, first_wires, power_steps};
 use marks::{push_buses, push_tests};
 use outside::{NoMemory, extend};
 use panels::{Drawn, Panel, below, lanes_panel, wires_panel};
 use plan_model::{Limits, Plan, good_without_limits};
-use power_events::power_steps;
 use rectangles::{lane_count, self_lanes, wired};
 use scale::push_scale;
 use sections::{BoundMark, push_frame, push_head, push_lanes, push_lines, push_power};

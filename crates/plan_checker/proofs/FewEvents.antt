@@ -5,7 +5,7 @@ use Rattle.std.proofs.lemmas.List.{length-append, take_more, append-nil, append_
 use Rattle.std.proofs.lemmas.List.Elements.{All-cons, All-append, All-nil}
 use Rattle.plan_model.specs.Plans.{LimitsValue}
 use Rattle.live_tests.specs.declared.placed.PlacedTest.{PlacedTest}
-use Rattle.power_events.specs.Events.{event_at, step_events, test_events, all_events, steps_of}
+use Rattle.live_tests.specs.Events.{event_at, step_events, test_events, all_events, steps_of}
 use Rattle.plan_checker.specs.Events.{IsSmall}
 use Rattle.plan_checker.specs.Power.{HasSmallSteps}
 

@@ -17,9 +17,9 @@ use Rattle.live_tests.specs.Placed.{placed_of, placed_tests}
 use Rattle.live_tests.specs.Names.{AllDiffer}
 use Rattle.plan_checker.specs.Named.{names_of}
 use Rattle.plan_checker.specs.Power.{AreProfiles, IsLoad, HasSmallSteps}
-use Rattle.power_events.specs.Events.{profile_place, steps_from, steps_of}
+use Rattle.live_tests.specs.Events.{profile_place, steps_from, steps_of}
 use Rattle.plan_checker.proofs.Finding.{some_same}
-use Rattle.power_events.proofs.Balance.{test_power}
+use Rattle.live_tests.proofs.Balance.{test_power}
 use Rattle.plan_checker.proofs.Filling.{placed_length}
 use Rattle.live_tests.proofs.HowMany.{live_tests-le}
 use Rattle.live_tests.proofs.LiveIds.{ids_differ}

@@ -17,8 +17,8 @@ use Rattle.plan_checker.specs.Named.{names_of}
 use Rattle.plan_checker.specs.declared.events.Excess.{Excess}
 use Rattle.plan_checker.specs.Events.{IsFirstOver}
 use Rattle.plan_checker.specs.Power.{AreProfiles}
-use Rattle.power_events.specs.Loads.{drawn, drawn_by}
-use Rattle.power_events.specs.Events.{profile_place, steps_from, steps_of}
+use Rattle.live_tests.specs.Loads.{drawn, drawn_by}
+use Rattle.live_tests.specs.Events.{profile_place, steps_from, steps_of}
 use Rattle.live_tests.proofs.WrittenParents.{set_else}
 use Rattle.plan_checker.proofs.Rooms.{same_test_is, same_test_itself}
 use Rattle.common_lemmas.proofs.Lists.{drop_at, map_at, set_here, sum_map}

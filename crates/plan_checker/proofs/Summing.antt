@@ -7,14 +7,14 @@ use Rattle.std.proofs.lemmas.List.Sums.{sum_by_more}
 use Rattle.std.proofs.lemmas.Option.{slice_get_within, slice_get-get_or}
 use Rattle.plan_model.specs.Plans.{LimitsValue}
 use Rattle.live_tests.specs.declared.placed.PlacedTest.{PlacedTest}
-use Rattle.power_events.specs.declared.Event.{Event}
+use Rattle.live_tests.specs.declared.power_events.Event.{Event}
 use Rattle.plan_checker.specs.declared.events.Excess.{Excess}
 use Rattle.plan_checker.specs.Events.{IsHigh, IsFirstHigh, IsFirstOver}
-use Rattle.power_events.specs.Events.{upto, begun_by, ended_by, all_events, IsLastOf}
-use Rattle.power_events.specs.Loads.{drawn_by}
+use Rattle.live_tests.specs.Events.{upto, begun_by, ended_by, all_events, IsLastOf}
+use Rattle.live_tests.specs.Loads.{drawn_by}
 use Rattle.plan_checker.specs.Power.{HasSmallSteps}
-use Rattle.power_events.proofs.Balance.{balance}
-use Rattle.power_events.proofs.Sweeping.{later_from, rises, sum_to}
+use Rattle.live_tests.proofs.Balance.{balance}
+use Rattle.live_tests.proofs.Sweeping.{later_from, rises, sum_to}
 use Rattle.plan_checker.proofs.Finding.{some_same}
 
 -- the sums of the first `i` events, with none too high at a cycle before the next event

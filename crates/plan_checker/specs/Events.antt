@@ -1,8 +1,8 @@
 -- The first cycle at which more is drawn than a limit.
 use Rattle.std.specs.Prelude.{◌≡◌, ℕ, ◌+◌, ◌<◌, ◌≤◌, ◌^◌, Option, Some, None, List}
-use Rattle.power_events.specs.declared.Event.{Event}
+use Rattle.live_tests.specs.declared.power_events.Event.{Event}
 use Rattle.plan_checker.specs.declared.events.Excess.{Excess}
-use Rattle.power_events.specs.Events.{begun_by, ended_by}
+use Rattle.live_tests.specs.Events.{begun_by, ended_by}
 
 -- numbers that leave room for sums
 pub record IsSmall (e : Event) : Type 0 where

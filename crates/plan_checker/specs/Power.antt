@@ -4,7 +4,7 @@ use Rattle.plan_model.specs.declared.TheConstants.{STEPS_MOST}
 use Rattle.plan_model.specs.Plans.{LimitsValue}
 use Rattle.plan_model.specs.Views.{limits_value}
 use Rattle.live_tests.specs.declared.placed.PlacedTest.{PlacedTest}
-use Rattle.power_events.specs.Events.{profile_place, steps_of, HasSteps}
+use Rattle.live_tests.specs.Events.{profile_place, steps_of, HasSteps}
 use Rattle.plan_checker.specs.declared.power.ProfiledTests.{ProfiledTests}
 
 -- for each test the place of its profile

@@ -4,7 +4,7 @@ ghost use Rattle.std.specs.Prelude.{◌≡◌, ℕ, ◌<◌, length, slice_index
 ghost use Rattle.live_tests.specs.Parents.{AreParents};
 ghost use Rattle.plan_checker.specs.Clashes.{keeps_apart, same_slot, BothAt, IsBest, HasNoPartner, IsFirstPartner, IsFirstPair, IsFirstCycle, PlacesWithin, rule_for, clash_fault};
 ghost use Rattle.plan_checker.specs.Layout.{IsLayout};
-ghost use Rattle.power_events.specs.Loads.{is_active};
+ghost use Rattle.live_tests.specs.Loads.{is_active};
 ghost use Rattle.soc_model.specs.Chips.{SocValue};
 ghost use Rattle.plan_model.specs.Plans.{PlanValue, LimitsValue};
 ghost use Rattle.live_tests.specs.Placed.{placed_tests};

@@ -7,21 +7,20 @@ ghost use Rattle.plan_model.specs.Rules.{Power};
 ghost use Rattle.plan_model.specs.Views.{limits_value};
 ghost use Rattle.live_tests.specs.declared.placed.PlacedTest.{PlacedTest};
 ghost use Rattle.plan_checker.specs.Events.{IsFirstOver};
-ghost use Rattle.power_events.specs.Events.{test_events, all_events, profile_place};
+ghost use Rattle.live_tests.specs.Events.{test_events, all_events, profile_place};
 ghost use Rattle.live_tests.specs.Placed.{placed_tests};
 ghost use Rattle.live_tests.specs.Names.{AllDiffer};
 ghost use Rattle.plan_checker.specs.Named.{ids_of, names_of};
 ghost use Rattle.plan_checker.specs.Power.{AreProfiles, IsLoad, IsSoundLoad};
-ghost use Rattle.power_events.specs.Loads.{drawn_by};
+ghost use Rattle.live_tests.specs.Loads.{drawn_by};
 ghost use Rattle.plan_checker.specs.Stages.{IsStage};
 
 use crate::PlanFault;
 use crate::events::{EVENTS_EACH, Excess, first_excess};
 use crate::named::{TestNames, place_named, test_at};
 use crate::places::clear_marks;
-use live_tests::PlacedTest;
+use live_tests::{Event, PlacedTest, put_steps, sort_events};
 use plan_model::{Limits, Profile};
-use power_events::{Event, put_steps, sort_events};
 
 /// The placed tests of a plan, and for each the place of its profile in the limits.
 #[derive(Clone, Copy, Drop)]

@@ -12,10 +12,9 @@ use crate::placed::{NO_TEST, NO_WRAPPERS};
 use crate::starts::NO_START;
 use bound_certificate::BoundScratch;
 use indexmap::IndexSet;
-use live_tests::{ModeWrappers, PlacedTest};
+use live_tests::{Event, ModeWrappers, PlacedTest};
 use outside::{NoMemory, both};
 use plan_model::{Plan, WIRES_MOST};
-use power_events::Event;
 use soc_model::{Soc, Test, live, module_at};
 use std::alloc::{AllocError, Global};
 

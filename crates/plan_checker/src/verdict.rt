@@ -43,9 +43,8 @@ use crate::starts::check_starts;
 use crate::widths::check_widths;
 use crate::wrappers::check_wrappers;
 use indexmap::IndexSet;
-use live_tests::{ModeWrappers, PlacedTest, fill_parents};
+use live_tests::{Event, ModeWrappers, PlacedTest, fill_parents};
 use plan_model::{Limits, Plan, WIRES_MOST};
-use power_events::Event;
 use soc_model::Soc;
 
 /// The buses of the plan: their widths, the modules that it names, and their places.

@@ -1,4 +1,4 @@
-pub mod Answering
+pub mod Kept
 pub mod OtherBounds
 pub mod InRange
 pub mod Raised

@@ -1,5 +1,5 @@
 pub mod Improved
-pub mod Requests
-pub mod Headlines
+pub mod Procedures
+pub mod Promises
 pub mod Reports
 pub mod SearchBasis

@@ -13,3 +13,5 @@ pub mod Faults
 pub mod SoundLimits
 pub mod ProfilePlaces
 pub mod Listing
+pub mod Proofs
+pub mod Sayable

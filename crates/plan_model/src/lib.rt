@@ -8,6 +8,7 @@
 mod laws;
 mod moments;
 mod places;
+mod proof;
 mod times;
 mod wrapping;
 
@@ -17,6 +18,7 @@ pub use laws::{
 };
 pub use moments::{Moment, NearCapture, Phases};
 pub use places::{bus_of, lists_module, profile_of, wrapper_of};
+pub use proof::{LISTS_MOST, Node, PRICE_MOST, Pricing, Proof, TestList, WEIGHT_MOST, Weights};
 use soc_model::TestId;
 pub use times::closed_time;
 pub use wrapping::{is_proper, lengths, tam_duration, test_cycles};

@@ -3,8 +3,7 @@
 use case_game::CaseGame;
 use case_tables::{Case, RANKS_MOST, REST};
 use leaf_values::LeafBasis;
-use search_numbers::ONE;
-use tables::{item_or, put_item};
+use tables::{ONE, item_or, put_item};
 
 /// How a case is divided.
 #[derive(Clone, Copy, PartialEq, Eq)]

@@ -18,10 +18,16 @@
 
 mod divided;
 mod divisions;
+mod filling;
 mod packs;
 mod queue;
 mod search;
+mod starting;
+mod uses;
 mod warms;
 mod weighing;
 
+pub use filling::{set_times, take_modules, take_ranks};
 pub use search::Search;
+pub use starting::write_start;
+pub use uses::ListUses;

@@ -2,12 +2,12 @@
 
 use crate::warms::WarmRing;
 use crate::weighing::CaseWeighing;
+use crate::{ListUses, set_times, take_modules, take_ranks, write_start};
 use case_tables::{Case, LISTS_MOST, LeafWeights};
 use case_tree::{CaseTree, FoundPack, ProofNames, TEXT_MOST};
 use leaf_values::LeafBasis;
 use outside::{NoMemory, both};
 use pack_search::{Asked, Found, PackSearch, Warm};
-use pack_tables::{ListUses, set_times, take_modules, take_ranks, write_start};
 use pack_values::{PackCase, Prices, leaf_work};
 use std::alloc::Global;
 use tables::{NONE, filled, item_or, put_item};

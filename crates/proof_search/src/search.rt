@@ -3,13 +3,12 @@ use crate::divisions::Division;
 use crate::packs::NodePacks;
 use crate::queue::{NO_ENTRY, NodeEntry, NodeQueue};
 use crate::weighing::{CaseWeighing, CaseWorth};
-use case_tables::{ChipTables, LISTS_MOST, RANKS_MOST};
+use case_tables::{ChipTables, LISTS_MOST, RANKS_MOST, tables_of};
 use case_tree::{CaseTree, NodeRule, ProofNames, TEXT_MOST, proof_of};
-use chip_tables::tables_of;
 use leaf_values::LeafBasis;
 use live_tests::Problem;
 use outside::{NoMemory, both};
-use proof_model::Proof;
+use plan_model::Proof;
 use std::alloc::Global;
 use tables::{NONE, filled, item_or, put_item};
 

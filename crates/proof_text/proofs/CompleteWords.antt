@@ -11,12 +11,12 @@ use Rattle.keyword_text.specs.Lines.{line_tokens, tokens_of}
 use Rattle.keyword_text.specs.Machines.{IsReadWhole}
 use Rattle.keyword_text.proofs.Kept.{run_both}
 use Rattle.keyword_text.proofs.Listed.{tokens_append}
-use Rattle.proof_model.specs.declared.TheConstants.{LISTS_MOST, WEIGHT_MOST, PRICE_MOST}
+use Rattle.plan_model.specs.declared.proof.TheConstants.{LISTS_MOST, WEIGHT_MOST, PRICE_MOST}
 use Rattle.proof_text.specs.declared.tokens.Keyword.{Keyword}
 use Rattle.proof_text.specs.declared.parts.ListKind.{ListKind}
-use Rattle.proof_model.specs.Proofs.{ListValue, OfTurns, OfTurnsOn, OfCrowd, OfPower, WeightsValue, PricingValue, LeafValue, OfSum, OfPack, SplitValue, OfWide, OfPlace, NodeValue, OfSplit, OfLeaf, CaseTree, Leaf, Branches, nodes_of, ProofValue}
+use Rattle.plan_model.specs.Proofs.{ListValue, OfTurns, OfTurnsOn, OfCrowd, OfPower, WeightsValue, PricingValue, LeafValue, OfSum, OfPack, SplitValue, OfWide, OfPlace, NodeValue, OfSplit, OfLeaf, CaseTree, Leaf, Branches, nodes_of, ProofValue}
 use Rattle.proof_text.specs.ProofLines.{list_line, test_numbers, use_tokens, weight_tokens, price_numbers, price_tokens, node_line, proof_tokens}
-use Rattle.proof_model.specs.Sayable.{NamesTests, IsWeight, IsUse, IsPrice, AreWeights, ArePrices, LeafHasWeights, HasWeights, MayBeSaid}
+use Rattle.plan_model.specs.Sayable.{NamesTests, IsWeight, IsUse, IsPrice, AreWeights, ArePrices, LeafHasWeights, HasWeights, MayBeSaid}
 use Rattle.proof_text.specs.Words.{DraftValue, PartValue, between, wants_list_rank, wants_most, wants_near, in_tests, wants_wide_rank, wants_module, in_place, wants_wire, in_ranks, wants_grain, in_prices, in_lists, State, at, with_list, with_node, with_branches, with_rank, with_price, with_use, list_of, wire_of, grain_of, next_if, if_both, begin_list, begin_wanted, begin, step_leaf, is_use, step, whole_at, ended, proof_machine}
 use Rattle.proof_text.specs.declared.tokens.Keyword.TheVariants as key
 use Rattle.proof_text.specs.declared.parts.ListKind.TheVariants as kind

@@ -9,7 +9,7 @@ use Rattle.proof_text.specs.declared.tokens.Keyword.{Keyword}
 use Rattle.proof_text.specs.declared.tokens.Keyword.TheVariants as key
 use Rattle.proof_text.specs.declared.parts.ListKind.{ListKind}
 use Rattle.proof_text.specs.declared.parts.ListKind.TheVariants as kind
-use Rattle.proof_model.specs.Proofs.{OfPower, WeightsValue, PricingValue, LeafValue, OfSum, OfPack, OfWide, OfPlace, NodeValue, OfSplit, OfLeaf}
+use Rattle.plan_model.specs.Proofs.{OfPower, WeightsValue, PricingValue, LeafValue, OfSum, OfPack, OfWide, OfPlace, NodeValue, OfSplit, OfLeaf}
 use Rattle.proof_text.specs.Words.{DraftValue, PartValue, wants_proof, wants_form, wants_bound, wants_claim, between, wants_list_rank, wants_most, wants_near, in_tests, wants_test, wants_wide_rank, wants_width, wants_module, wants_place_rank, in_place, wants_wire, in_ranks, wants_grain, in_prices, wants_price, wants_list, wants_list_weight, in_lists, State, at, with_list, with_node, with_branches, with_price, with_use, list_of, wire_of, grain_of, step_leaf, whole_at, proof_machine}
 use Rattle.proof_text.proofs.SoundWords.{Holds, wanted_some}
 use Rattle.proof_text.proofs.CompleteWords.{MayBegin, MayGo, node_begun}

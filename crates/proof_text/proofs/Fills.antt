@@ -1,7 +1,7 @@
 -- Where a proof has no nodes yet, one is wanted.
 use Rattle.std.proofs.Common.{◌≡◌, ℕ, zero, suc, ◌≤◌, List, [], refl, subst, arith}
 use Rattle.keyword_text.proofs.Trees.{Fills}
-use Rattle.proof_model.specs.Proofs.{NodeValue, CaseTree, Leaf, Branches, nodes_of}
+use Rattle.plan_model.specs.Proofs.{NodeValue, CaseTree, Leaf, Branches, nodes_of}
 
 -- no nodes are no tree
 fills_some : Fills nodes_of [] 0 → ⊥

@@ -7,7 +7,7 @@ use Rattle.keyword_text.specs.Lines.{spaced, spaced_numbers, text_of}
 use Rattle.keyword_text.proofs.Listed.{text_append}
 use Rattle.keyword_text.proofs.Printed.{IsPrinted, are_printed, printed_lines}
 use Rattle.proof_text.specs.declared.tokens.Keyword.{Keyword}
-use Rattle.proof_model.specs.Proofs.{WeightsValue, PricingValue, ProofValue}
+use Rattle.plan_model.specs.Proofs.{WeightsValue, PricingValue, ProofValue}
 use Rattle.proof_text.specs.Tokens.{spelling, proof_lexicon}
 use Rattle.proof_text.specs.ProofLines.{list_line, use_tokens, weight_tokens, price_numbers, price_tokens, node_line, head_lines, proof_lines, proof_tokens, proof_text}
 use Rattle.proof_text.specs.TextLaws.{PrintedProofsAreRead}

@@ -5,10 +5,10 @@ use Rattle.keyword_text.specs.Machines.{ReadsGrammar}
 use Rattle.keyword_text.specs.Reads.{IsReadText}
 use Rattle.keyword_text.proofs.Ranges.{spelled_small}
 use Rattle.keyword_text.proofs.EachText.{each_text}
-use Rattle.proof_model.specs.declared.Proof.{Proof}
+use Rattle.plan_model.specs.declared.proof.Proof.{Proof}
 use Rattle.proof_text.specs.declared.ProofTextFault.{ProofTextFault}
 use Rattle.proof_text.specs.declared.ProofTextFault.TheVariants.{Text, NoMemory}
-use Rattle.proof_model.specs.Proofs.{ProofValue, proof_value}
+use Rattle.plan_model.specs.Proofs.{ProofValue, proof_value}
 use Rattle.proof_text.specs.Tokens.{spelling, proof_lexicon}
 use Rattle.proof_text.specs.ProofLines.{proof_tokens, proof_text}
 use Rattle.proof_text.specs.Grammar.{proof_grammar}

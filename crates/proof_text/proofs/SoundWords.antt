@@ -12,12 +12,12 @@ use Rattle.keyword_text.specs.Machines.{IsRun, IsSaid}
 use Rattle.keyword_text.proofs.Kept.{kept_by_words, kept_holds}
 use Rattle.keyword_text.proofs.Listed.{tokens_push, numbers_push, word_pushed}
 use Rattle.keyword_text.proofs.Trees.{Fills, fills_none, fills_leaf, fills_split, fills_whole, fills_as}
-use Rattle.proof_model.specs.declared.TheConstants.{LISTS_MOST, WEIGHT_MOST, PRICE_MOST}
+use Rattle.plan_model.specs.declared.proof.TheConstants.{LISTS_MOST, WEIGHT_MOST, PRICE_MOST}
 use Rattle.proof_text.specs.declared.tokens.Keyword.{Keyword}
 use Rattle.proof_text.specs.declared.parts.ListKind.{ListKind}
-use Rattle.proof_model.specs.Proofs.{ListValue, OfPower, WeightsValue, PricingValue, LeafValue, OfSum, OfPack, OfWide, OfPlace, NodeValue, OfSplit, OfLeaf, Leaf, Branches, nodes_of, ProofValue}
+use Rattle.plan_model.specs.Proofs.{ListValue, OfPower, WeightsValue, PricingValue, LeafValue, OfSum, OfPack, OfWide, OfPlace, NodeValue, OfSplit, OfLeaf, Leaf, Branches, nodes_of, ProofValue}
 use Rattle.proof_text.specs.ProofLines.{list_line, test_numbers, use_tokens, weight_tokens, price_numbers, price_tokens, node_line, head_lines, proof_tokens}
-use Rattle.proof_model.specs.Sayable.{NamesTests, IsWeight, IsUse, IsPrice, AreWeights, ArePrices, LeafHasWeights, HasWeights}
+use Rattle.plan_model.specs.Sayable.{NamesTests, IsWeight, IsUse, IsPrice, AreWeights, ArePrices, LeafHasWeights, HasWeights}
 use Rattle.proof_text.specs.Grammar.{proof_grammar}
 use Rattle.proof_text.specs.Words.{DraftValue, PartValue, wants_proof, wants_form, wants_bound, wants_claim, between, wants_list_rank, wants_most, wants_near, in_tests, wants_test, wants_wide_rank, wants_width, wants_module, wants_place_rank, in_place, wants_wire, in_ranks, wants_grain, in_prices, wants_price, wants_list, wants_list_weight, in_lists, State, at, with_list, with_node, with_branches, with_rank, with_price, with_use, list_of, wire_of, grain_of, next_if, if_both, step_number, begin_list, begin_wanted, begin, end_tests, is_use, step_leaf, begin_proof, begin_bound, begun, step_key, whole_at, ended_by, ended, proof_machine}
 use Rattle.proof_text.proofs.Fills.{some_wanted}

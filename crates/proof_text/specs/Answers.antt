@@ -3,11 +3,11 @@ use Rattle.std.specs.Prelude.{ℕ, List, Result, Ok, Err}
 use Rattle.outside.specs.declared.reading.Unread.{Unread}
 use Rattle.outside.specs.declared.reading.Unread.TheVariants as unread
 use Rattle.keyword_text.specs.Texts.{Says, Refuses}
-use Rattle.proof_model.specs.declared.Proof.{Proof}
+use Rattle.plan_model.specs.declared.proof.Proof.{Proof}
 use Rattle.proof_text.specs.declared.ProofTextFault.{ProofTextFault}
 use Rattle.proof_text.specs.declared.ProofTextFault.TheVariants.{Text, NoMemory}
-use Rattle.proof_model.specs.Proofs.{ProofValue, proof_value}
-use Rattle.proof_model.specs.Sayable.{MayBeSaid}
+use Rattle.plan_model.specs.Proofs.{ProofValue, proof_value}
+use Rattle.plan_model.specs.Sayable.{MayBeSaid}
 use Rattle.proof_text.specs.Grammar.{proof_grammar, IsInRange}
 
 -- the text says this proof

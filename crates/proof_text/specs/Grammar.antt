@@ -2,8 +2,8 @@
 use Rattle.plan_model.specs.declared.TheConstants.{PLAN_NUMBER_MOST}
 use Rattle.keyword_text.specs.Texts.{Grammar, AllSmall}
 use Rattle.proof_text.specs.declared.tokens.Keyword.{Keyword}
-use Rattle.proof_model.specs.Proofs.{ProofValue}
-use Rattle.proof_model.specs.Sayable.{MayBeSaid}
+use Rattle.plan_model.specs.Proofs.{ProofValue}
+use Rattle.plan_model.specs.Sayable.{MayBeSaid}
 use Rattle.proof_text.specs.Tokens.{proof_lexicon}
 use Rattle.proof_text.specs.ProofLines.{proof_tokens}
 

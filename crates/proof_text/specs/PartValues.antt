@@ -7,7 +7,7 @@ use Rattle.proof_text.specs.declared.parts.Leaf.{Leaf}
 use Rattle.proof_text.specs.declared.parts.Leaf.TheVariants.{Sum, Pack}
 use Rattle.proof_text.specs.declared.parts.Part.{Part}
 use Rattle.proof_text.specs.declared.parts.Part.TheVariants as read
-use Rattle.proof_model.specs.Proofs.{list_value, weights_value, pricing_value, LeafValue, OfSum, OfPack, node_value}
+use Rattle.plan_model.specs.Proofs.{list_value, weights_value, pricing_value, LeafValue, OfSum, OfPack, node_value}
 use Rattle.proof_text.specs.Words.{DraftValue, PartValue, wants_proof, wants_form, wants_bound, wants_claim, between, wants_list_rank, wants_most, wants_near, in_tests, wants_test, wants_wide_rank, wants_width, wants_module, wants_place_rank, in_place, wants_wire, in_ranks, wants_grain, in_prices, wants_price, wants_list, wants_list_weight, in_lists, State, at}
 
 abbrev pub draft_value : Draft → DraftValue

@@ -7,7 +7,7 @@ use Rattle.keyword_text.specs.declared.tokens.Token.TheVariants.{Key, Number}
 use Rattle.keyword_text.specs.Lines.{Line, line, tokens_of, text_of}
 use Rattle.proof_text.specs.declared.tokens.Keyword.{Keyword}
 use Rattle.proof_text.specs.declared.tokens.Keyword.TheVariants as key
-use Rattle.proof_model.specs.Proofs.{ListValue, OfTurns, OfTurnsOn, OfCrowd, OfPower, WeightsValue, PricingValue, OfSum, OfPack, OfWide, OfPlace, NodeValue, OfSplit, OfLeaf, ProofValue}
+use Rattle.plan_model.specs.Proofs.{ListValue, OfTurns, OfTurnsOn, OfCrowd, OfPower, WeightsValue, PricingValue, OfSum, OfPack, OfWide, OfPlace, NodeValue, OfSplit, OfLeaf, ProofValue}
 use Rattle.proof_text.specs.Tokens.{spelling}
 
 -- a line with a list of numbers at its end

@@ -2,11 +2,11 @@
 use Rattle.std.specs.Prelude.{◌⊎◌, ℕ, List, Result}
 use Rattle.keyword_text.specs.Reads.{IsAnswer}
 use Rattle.keyword_text.specs.Laws.{SayOne, AreNotRefused, AreRefusedOnce}
-use Rattle.proof_model.specs.declared.Proof.{Proof}
+use Rattle.plan_model.specs.declared.proof.Proof.{Proof}
 use Rattle.proof_text.specs.declared.ProofTextFault.{ProofTextFault}
-use Rattle.proof_model.specs.Proofs.{ProofValue, proof_value}
+use Rattle.plan_model.specs.Proofs.{ProofValue, proof_value}
 use Rattle.proof_text.specs.ProofLines.{proof_text}
-use Rattle.proof_model.specs.Sayable.{MayBeSaid}
+use Rattle.plan_model.specs.Sayable.{MayBeSaid}
 use Rattle.proof_text.specs.Grammar.{proof_grammar, IsInRange}
 use Rattle.proof_text.specs.Answers.{SaysProof, IsReadAgain, RefusesText, proof_unread, IsReadProof, ProofRead}
 

@@ -5,12 +5,12 @@ use Rattle.soc_model.specs.declared.TestId.{TestId}
 use Rattle.keyword_text.specs.declared.tokens.Token.{Token}
 use Rattle.keyword_text.specs.declared.tokens.Token.TheVariants.{Key, Number}
 use Rattle.keyword_text.specs.Machines.{Machine}
-use Rattle.proof_model.specs.declared.TheConstants.{LISTS_MOST, WEIGHT_MOST, PRICE_MOST}
+use Rattle.plan_model.specs.declared.proof.TheConstants.{LISTS_MOST, WEIGHT_MOST, PRICE_MOST}
 use Rattle.proof_text.specs.declared.tokens.Keyword.{Keyword}
 use Rattle.proof_text.specs.declared.tokens.Keyword.TheVariants as key
 use Rattle.proof_text.specs.declared.parts.ListKind.{ListKind}
 use Rattle.proof_text.specs.declared.parts.ListKind.TheVariants as kind
-use Rattle.proof_model.specs.Proofs.{ListValue, OfTurns, OfTurnsOn, OfCrowd, OfPower, WeightsValue, PricingValue, LeafValue, OfSum, OfPack, OfWide, OfPlace, NodeValue, OfSplit, OfLeaf, ProofValue}
+use Rattle.plan_model.specs.Proofs.{ListValue, OfTurns, OfTurnsOn, OfCrowd, OfPower, WeightsValue, PricingValue, LeafValue, OfSum, OfPack, OfWide, OfPlace, NodeValue, OfSplit, OfLeaf, ProofValue}
 
 -- the claim, the lists and the nodes that were read whole, and how many nodes are still to begin
 pub record DraftValue : Type 0 where

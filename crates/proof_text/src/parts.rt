@@ -1,6 +1,6 @@
 //! What was read of a proof, up to some word of its text.
 
-use proof_model::{Node, Pricing, TestList, Weights};
+use plan_model::{Node, Pricing, TestList, Weights};
 use soc_model::TestId;
 
 /// The claim, the lists and the nodes that were read whole.

@@ -2,14 +2,14 @@
 ghost use Rattle.std.specs.Prelude.{◌≡◌, ◌++◌, map, OnOk, IfOk};
 ghost use Rattle.std.specs.List.{flat_map};
 ghost use Rattle.keyword_text.specs.Lines.{spaced, spaced_numbers, line_text, text_of};
-ghost use Rattle.proof_model.specs.Proofs.{list_value, weights_value, pricing_value, node_value, proof_value};
+ghost use Rattle.plan_model.specs.Proofs.{list_value, weights_value, pricing_value, node_value, proof_value};
 ghost use Rattle.proof_text.specs.Tokens.{spelling};
 ghost use Rattle.proof_text.specs.ProofLines.{test_numbers, use_tokens, list_line, weight_tokens, price_numbers, price_tokens, node_line, head_lines, proof_text};
 ghost use Rattle.proof_text.specs.Answers.{IsReadAgain};
 
 use keyword_text::push_numbers;
 use outside::{NoMemory, extend, push_spaced};
-use proof_model::{Node, Pricing, Proof, TestList, Weights};
+use plan_model::{Node, Pricing, Proof, TestList, Weights};
 use soc_model::TestId;
 use std::alloc::Global;
 

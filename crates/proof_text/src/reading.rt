@@ -10,8 +10,7 @@ use crate::tokens::{KEYWORDS, Keyword};
 use crate::words::{end_proof, new_draft, step_token};
 use keyword_text::{Format, Spelled, Token, read_by};
 use outside::{Stop, Unread};
-use plan_model::PLAN_NUMBER_MOST;
-use proof_model::Proof;
+use plan_model::{PLAN_NUMBER_MOST, Proof};
 use std::alloc::Global;
 
 /// What was read of a proof's text so far. It stands in a box, so that no more than a pointer moves from word to word.
@@ -28,7 +27,7 @@ impl Format for ProofText {
 
     type Fault = ProofTextFault;
 
-    ghost use Rattle.proof_model.specs.Proofs.{ProofValue, proof_value};
+    ghost use Rattle.plan_model.specs.Proofs.{ProofValue, proof_value};
     ghost use Rattle.proof_text.specs.Grammar.{proof_grammar};
     ghost use Rattle.proof_text.specs.Words.{State, proof_machine};
     ghost use Rattle.proof_text.specs.Answers.{proof_unread};

@@ -1,7 +1,7 @@
 //! Reads the words of a proof one by one.
 ghost use Rattle.std.specs.Prelude.{◌≡◌, ◌++◌, ◌∷◌, [], Ok, OnOk, OnErr};
 ghost use Rattle.keyword_text.specs.Reads.{Makes};
-ghost use Rattle.proof_model.specs.Proofs.{OfLeaf, OfSum, OfPack, list_value, node_value, pricing_value, weights_value, proof_value};
+ghost use Rattle.plan_model.specs.Proofs.{OfLeaf, OfSum, OfPack, list_value, node_value, pricing_value, weights_value, proof_value};
 ghost use Rattle.proof_text.specs.PartValues.{draft_value, leaf_value, part_value, Begins, Steps};
 ghost use Rattle.proof_text.specs.Words.{at, start as state_at_first, with_list, with_node, with_branches, with_rank, with_price, with_use, list_of, begin as begins, begin_list as begins_list, begin_node as begins_node, begin_proof as begins_proof, begin_bound as begins_bound, step_number as steps_number, step_key as steps_key, step_leaf as steps_leaf, is_use as uses, step as steps, ended_by, wants_form, wants_wire, wants_grain, wants_price as wants_price_of, wants_list_weight as wants_weight, in_ranks, in_lists, in_tests};
 
@@ -9,7 +9,7 @@ use crate::parts::{Draft, Leaf, ListKind, Part};
 use crate::tokens::Keyword;
 use keyword_text::Token;
 use outside::Stop;
-use proof_model::{LISTS_MOST, Node, PRICE_MOST, Pricing, Proof, TestList, WEIGHT_MOST, Weights};
+use plan_model::{LISTS_MOST, Node, PRICE_MOST, Pricing, Proof, TestList, WEIGHT_MOST, Weights};
 use soc_model::TestId;
 use std::alloc::Global;
 use std::mem::replace;

@@ -6,7 +6,7 @@ use Rattle.std.proofs.lemmas.List.Sums.{sum_by-cons}
 use Rattle.plan_model.specs.Bounds.{sum_below}
 use Rattle.plan_model.proofs.SumsOverCycles.{sum_below-same, sum_below-add, sum_below-zero, sum_below-one, sum_below-sum_by}
 use Rattle.live_tests.specs.declared.placed.PlacedTest.{PlacedTest}
-use Rattle.power_events.specs.Loads.{is_active}
+use Rattle.live_tests.specs.Loads.{is_active}
 use Rattle.report.specs.Totals.{cycles_of}
 use Rattle.report.specs.BusLines.{is_over, is_busy, busy_cycles, idle_cycles}
 use Rattle.report.specs.PlacedTests.{AreTests, active_over, cycles_over}

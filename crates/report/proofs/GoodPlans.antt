@@ -25,8 +25,8 @@ use Rattle.plan_model.proofs.Sums.{at_most_one, sum_by-filter, sum_by-le_at}
 use Rattle.live_tests.specs.declared.placed.PlacedTest.{PlacedTest}
 use Rattle.live_tests.specs.Placed.{bus_over, placed_of, placed_tests}
 use Rattle.live_tests.proofs.HowMany.{live_tests-le}
-use Rattle.power_events.specs.Events.{HasSteps, profile_place, steps_from}
-use Rattle.power_events.specs.Loads.{drawn, drawn_by, is_active}
+use Rattle.live_tests.specs.Events.{HasSteps, profile_place, steps_from}
+use Rattle.live_tests.specs.Loads.{drawn, drawn_by, is_active}
 use Rattle.report.specs.Totals.{area_of, busy_area, cycles_of, wires_over}
 use Rattle.report.specs.BusLines.{is_bus, is_over}
 use Rattle.report.specs.PlacedTests.{AreTests, StandIn, active_over}

@@ -5,8 +5,8 @@ use Rattle.std.proofs.lemmas.Bool.{cases_lt, cases_Bool, le-leb, lt-leb, lt-ltb,
 use Rattle.std.proofs.lemmas.List.{map-append}
 use Rattle.std.proofs.lemmas.List.Elements.{filter-append}
 use Rattle.plan_model.specs.Plans.{step_power}
-use Rattle.power_events.specs.Loads.{before, changes, load_steps, with_change}
-use Rattle.power_events.proofs.Sweeping.{steps_to}
+use Rattle.live_tests.specs.Loads.{before, changes, load_steps, with_change}
+use Rattle.live_tests.proofs.Sweeping.{steps_to}
 use Rattle.report.specs.declared.peak.Peak.{Peak}
 use Rattle.report.specs.Peaks.{higher, no_power, peak, peak_after}
 use Rattle.common_lemmas.proofs.Ranges.{range_next}

@@ -3,7 +3,7 @@ use Rattle.std.specs.Prelude.{ℕ, ◌+◌, Bool, false, ◌&&◌, Option, None,
 use Rattle.std.specs.List.{list_any, sum_by}
 use Rattle.plan_model.specs.Bounds.{sum_below}
 use Rattle.live_tests.specs.declared.placed.PlacedTest.{PlacedTest}
-use Rattle.power_events.specs.Loads.{is_active}
+use Rattle.live_tests.specs.Loads.{is_active}
 
 -- a bus is this one
 abbrev pub is_bus : ℕ → Option ℕ → Bool

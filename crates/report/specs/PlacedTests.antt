@@ -3,7 +3,7 @@ use Rattle.std.specs.Prelude.{◌≡◌, ℕ, ◌^◌, ◌<◌, ◌≤◌, ◌&&
 use Rattle.std.specs.List.{sum_by}
 use Rattle.soc_model.specs.Chips.{ModuleValue}
 use Rattle.live_tests.specs.declared.placed.PlacedTest.{PlacedTest}
-use Rattle.power_events.specs.Loads.{is_active}
+use Rattle.live_tests.specs.Loads.{is_active}
 use Rattle.report.specs.Totals.{cycles_of}
 use Rattle.report.specs.BusLines.{is_over}
 

@@ -1,7 +1,7 @@
 //! Why a plan is as long as it is, as text: what its bound leaves, how the wires and the power are used, each bus and each module, and
 //! which tests held the last one back.
 //!
-//! The text is by its definition, over the tests of a good plan as `live_tests` places them, what they draw by `power_events`, and the
+//! The text is by its definition, over the tests of a good plan as `live_tests` places them, what they draw by `live_tests`, and the
 //! times of modules by `width_table`. The only error is out of memory.
 #![tactic(auto)]
 
@@ -31,12 +31,11 @@ mod totals;
 use buses::push_buses;
 use chain::push_chain;
 pub use laws::good_plans_report_right;
-use live_tests::{PlacedPlan, PlacedTest};
+use live_tests::{PlacedPlan, PlacedTest, power_steps};
 use modules::push_modules;
 use outside::NoMemory;
 use peak::push_power;
 use plan_model::{Limits, Plan};
-use power_events::power_steps;
 use soc_model::Soc;
 use std::alloc::Global;
 use totals::{push_cycles, push_wires, widths_of};

@@ -4,10 +4,10 @@ use Rattle.std.proofs.lemmas.Bool.{cases_lt, lt-leb, le-leb, lt-ltb, le-ltb, and
 use Rattle.std.proofs.lemmas.List.Sums.{sum_by-cons, sum_by-append, get_or-le-sum_by}
 use Rattle.plan_model.{specs.Plans.step_power, specs.SoundLimits.Grow, proofs.Lists.from_flat_map, proofs.Greatest.le-greatest_at, proofs.Greatest.greatest-least}
 use Rattle.resource_table.specs.declared.Placement.{Placement}
-use Rattle.drawn_power.specs.declared.power.Draw.{Draw}
+use Rattle.busy_times.specs.declared.power.Draw.{Draw}
 use Rattle.resource_table.specs.Jobs.{TestValue, JobValue, test_at, no_test, cycles_of, IsSoundJob}
 use Rattle.resource_table.specs.Schedules.{TableValue, end_of, last_end, drawn, power_of, power_at, StaysWithin, IsSoundTable}
-use Rattle.drawn_power.specs.Draws.{step_end, draws_from, load_of, StepsFit}
+use Rattle.busy_times.specs.Draws.{step_end, draws_from, load_of, StepsFit}
 use Rattle.resource_table.specs.Resources.{draws_of}
 use Rattle.resource_table.proofs.Steps.{cycles_from_steps, steps_from_cycles, draws_before, draws_after, draws_at, step_end-le}
 use Rattle.common_lemmas.proofs.Lists.{all_from}

@@ -5,14 +5,14 @@ use Rattle.smallvec.specs.SmallVec.{SmallVec}
 use Rattle.std.proofs.lemmas.{Bool.cases_lt, List.take_at, List.length-map, List.Sums.sum_by-cons, List.Sums.sum_by-append}
 use Rattle.plan_model.proofs.Lists.{from_flat_map}
 use Rattle.resource_table.specs.{declared.Placement.Placement, Kept.IsProfiled}
-use Rattle.drawn_power.specs.{declared.power.Draw.Draw, declared.points.Point.Point}
+use Rattle.busy_times.specs.{declared.power.Draw.Draw, declared.points.Point.Point}
 use Rattle.resource_table.specs.Jobs.{TestValue, JobValue, IsSoundJob, test_at, no_test, cycles_of}
 use Rattle.resource_table.specs.Schedules.{at_start, MayPlace, IsSoundTable}
-use Rattle.drawn_power.specs.Draws.{load_of, draws_from, marks_from, step_end}
+use Rattle.busy_times.specs.Draws.{load_of, draws_from, marks_from, step_end}
 use Rattle.resource_table.specs.Resources.{draws_of, marks_of}
-use Rattle.drawn_power.specs.Profiles.{counted, all_uses, ArePoints, AreMarked}
+use Rattle.busy_times.specs.Profiles.{counted, all_uses, ArePoints, AreMarked}
 use Rattle.resource_table.proofs.{Steps.step_end-le, Fitting.load_is_power, Schedules.sound_power}
-use Rattle.drawn_power.proofs.Profiles.{self_counts, last_dropped}
+use Rattle.busy_times.proofs.Profiles.{self_counts, last_dropped}
 use Rattle.resource_table.proofs.KeptTables.{sound_push, trail_has_room, draws_have_room}
 use Rattle.common_lemmas.proofs.Lists.{flat_map_push}
 

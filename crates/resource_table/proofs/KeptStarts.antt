@@ -5,13 +5,13 @@ use Rattle.std.proofs.lemmas.List.{length-map, Sums.sum_by-cons, Elements.All-he
 use Rattle.std.proofs.lemmas.Option.{slice_get-get_or, get_or_from_slice_get}
 use Rattle.smallvec.specs.SmallVec.{SmallVec}
 use Rattle.resource_table.specs.{declared.JobTest.JobTest, declared.Placement.Placement}
-use Rattle.drawn_power.specs.{declared.power.Draw.Draw, declared.points.Point.Point}
+use Rattle.busy_times.specs.{declared.power.Draw.Draw, declared.points.Point.Point}
 use Rattle.resource_table.specs.Jobs.{TestValue, JobValue, test_value, test_at, no_test, IsSoundTest}
 use Rattle.resource_table.specs.{Schedules.last_end, Schedules.power_at, Schedules.StaysWithin, Calm.IsCalm, Kept.IsKept}
-use Rattle.drawn_power.specs.Draws.{taken_by, load_of, StepsFit}
+use Rattle.busy_times.specs.Draws.{taken_by, load_of, StepsFit}
 use Rattle.resource_table.specs.Resources.{marks_of}
-use Rattle.drawn_power.specs.Profiles.{ArePoints, IsEndedProfile}
-use Rattle.drawn_power.proofs.Profiles.{sum_of_none, none_taken, drawn_profile}
+use Rattle.busy_times.specs.Profiles.{ArePoints, IsEndedProfile}
+use Rattle.busy_times.proofs.Profiles.{sum_of_none, none_taken, drawn_profile}
 use Rattle.resource_table.proofs.KeptMarks.{all_marked}
 use Rattle.resource_table.proofs.Fitting.{draws_ended, last_small, cycles_small, load_is_power, steps_from_within, within_from_steps, within_without_limit}
 use Rattle.common_lemmas.proofs.Lists.{map_at, all_at, any_default}

@@ -7,12 +7,12 @@ use Rattle.std.proofs.lemmas.List.{take_at, take_all, length-take, take-append-l
 use Rattle.smallvec.specs.SmallVec.{SmallVec}
 use Rattle.plan_model.{specs.Plans.greatest, specs.Rules.Each, proofs.Greatest.greatest_push}
 use Rattle.resource_table.specs.{declared.Placement.Placement, declared.JobTest.JobTest}
-use Rattle.drawn_power.specs.{declared.points.Point.Point, declared.power.Draw.Draw}
+use Rattle.busy_times.specs.{declared.points.Point.Point, declared.power.Draw.Draw}
 use Rattle.resource_table.specs.Jobs.{TestValue, JobValue, IsSoundJob, test_value, test_at, no_test, cycles_of}
 use Rattle.resource_table.specs.Schedules.{at_start, end_of, last_end, is_placed, MayPlace, IsSoundTable}
-use Rattle.drawn_power.specs.Draws.{load_of, draws_from}
+use Rattle.busy_times.specs.Draws.{load_of, draws_from}
 use Rattle.resource_table.specs.Resources.{draws_of, end_in}
-use Rattle.drawn_power.specs.Profiles.{ArePoints}
+use Rattle.busy_times.specs.Profiles.{ArePoints}
 use Rattle.resource_table.specs.Kept.{IsKept, IsProfiled}
 use Rattle.resource_table.proofs.Placed.{each_push, each_front, each_last, sound_tests, sum_of_placed, few_placed, end_is_some, end_none, end_new, end_other}
 use Rattle.common_lemmas.proofs.Lists.{flat_map_push, any_default}

@@ -18,7 +18,7 @@ use Rattle.busy_times.specs.BusyTimes.{IsClear, AreFree, IsPut, IsTaken, MayFill
 use Rattle.resource_table.specs.PlacedTimes.{busy_places, timeline_of, is_alone, takes, room_of, least_of, span_of, part_in, IsTimeline, AreTimelines, AreTimes, AreEmpty, AreEmptyTimes}
 use Rattle.resource_table.proofs.Placed.{sum_of_placed, sound_tests}
 use Rattle.resource_table.proofs.KeptTables.{sound_push, trail_has_room}
-use Rattle.drawn_power.proofs.{Ordered.ordered_remove, Profiles.sum_of_none}
+use Rattle.busy_times.proofs.{Ordered.ordered_remove, Profiles.sum_of_none}
 use Rattle.resource_table.proofs.Fitting.{lasts_at}
 use Rattle.resource_table.proofs.Latest.{latest_new, latest_more, latest_less}
 use Rattle.common_lemmas.proofs.Tests.{both_true}

@@ -6,7 +6,7 @@ use Rattle.smallvec.specs.SmallVec.{SmallVec}
 use Rattle.plan_model.specs.Plans.{greatest}
 use Rattle.plan_model.proofs.{Lists.at_contains, Lists.any_from, Lists.from_filter, Greatest.le-greatest_at, Greatest.greatest-least}
 use Rattle.resource_table.specs.{declared.Placement.Placement, Resources.end_in, Kept.IsKept}
-use Rattle.drawn_power.specs.declared.power.Draw.{Draw}
+use Rattle.busy_times.specs.declared.power.Draw.{Draw}
 use Rattle.resource_table.specs.Befores.{tests_before, listed, AreListed}
 use Rattle.resource_table.specs.Jobs.{JobValue, Precedes}
 use Rattle.resource_table.specs.Schedules.{end_of, last_end, precedes, ready_at, ComesAfter}

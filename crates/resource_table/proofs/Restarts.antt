@@ -5,7 +5,7 @@ use Rattle.std.proofs.lemmas.List.{length-map, get_or-map, map-set, take_all, Su
 use Rattle.plan_model.specs.declared.TheConstants.{WIRES_MOST}
 use Rattle.smallvec.specs.SmallVec.{SmallVec}
 use Rattle.resource_table.specs.{declared.JobTest.JobTest, declared.table.Rows.Rows, declared.Placement.Placement, declared.history.History.History}
-use Rattle.drawn_power.specs.{declared.power.Draw.Draw, declared.points.Point.Point}
+use Rattle.busy_times.specs.{declared.power.Draw.Draw, declared.points.Point.Point}
 use Rattle.busy_times.specs.{declared.timelines.Timeline.Timeline, declared.timelines.Timelines.Timelines}
 use Rattle.resource_table.specs.declared.empty_times.Kind.{Kind}
 use Rattle.resource_table.specs.declared.empty_times.Kind.TheVariants.{Bus, Own, Children}

@@ -3,9 +3,9 @@ use Rattle.std.proofs.Common.{◌≡◌, ℕ, ◌+◌, ◌-◌, ◌<◌, ◌≤�
 use Rattle.std.proofs.lemmas.Bool.{cases_lt, le-leb, lt-leb}
 use Rattle.std.proofs.lemmas.List.Sums.{sum_by-cons}
 use Rattle.plan_model.specs.{Plans.step_power, SoundLimits.Grow}
-use Rattle.drawn_power.specs.declared.power.Draw.{Draw}
-use Rattle.drawn_power.proofs.Profiles.{none_taken, all_taken}
-use Rattle.drawn_power.specs.Draws.{taken_by, load_of, step_end, draws_from, StepsFit}
+use Rattle.busy_times.specs.declared.power.Draw.{Draw}
+use Rattle.busy_times.proofs.Profiles.{none_taken, all_taken}
+use Rattle.busy_times.specs.Draws.{taken_by, load_of, step_end, draws_from, StepsFit}
 
 -- before the first step nothing changes
 pub step_late : (from r now : ℕ) (steps : List (ℕ × ℕ)) → Grow from steps → r < from → step_power r now steps ≡ now

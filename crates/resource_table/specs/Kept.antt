@@ -4,15 +4,15 @@ use Rattle.std.specs.List.{sum_by, flat_map}
 use Rattle.std.specs.Global.{Vec}
 use Rattle.smallvec.specs.SmallVec.{SmallVec}
 use Rattle.resource_table.specs.declared.Placement.{Placement}
-use Rattle.drawn_power.specs.declared.power.Draw.{Draw}
-use Rattle.drawn_power.specs.declared.points.Point.{Point}
+use Rattle.busy_times.specs.declared.power.Draw.{Draw}
+use Rattle.busy_times.specs.declared.points.Point.{Point}
 use Rattle.resource_table.specs.declared.history.History.{History}
 use Rattle.resource_table.specs.declared.history.Note.{Note}
 use Rattle.resource_table.specs.Histories.{no_note, past_of, IsHistory}
 use Rattle.resource_table.specs.Jobs.{TestValue, JobValue}
 use Rattle.resource_table.specs.Schedules.{last_end, Fits, IsEarliest, IsSoundTable}
 use Rattle.resource_table.specs.Resources.{draws_of, marks_of, end_in}
-use Rattle.drawn_power.specs.Profiles.{ArePoints}
+use Rattle.busy_times.specs.Profiles.{ArePoints}
 
 pub record IsKept (job : JobValue) (trail : SmallVec Placement) (ends : Vec (Option ℕ)) (lasts : Vec ℕ) (draws : Vec Draw) : Type 0 where
   pub sound : IsSoundTable (record { job = job; placed = trail.items })

@@ -1,7 +1,7 @@
 -- What a table keeps of its placed tests, as it would be built from the list of them.
 use Rattle.std.specs.Prelude.{ℕ, nat_eq, Option, None, Some, List, [], ◌∷◌, if◌then◌else◌}
-use Rattle.drawn_power.specs.declared.power.Draw.{Draw}
-use Rattle.drawn_power.specs.Draws.{draws_from, marks_from}
+use Rattle.busy_times.specs.declared.power.Draw.{Draw}
+use Rattle.busy_times.specs.Draws.{draws_from, marks_from}
 use Rattle.resource_table.specs.declared.Placement.{Placement}
 use Rattle.resource_table.specs.Jobs.{JobValue, test_at, cycles_of}
 use Rattle.resource_table.specs.Schedules.{end_of}

@@ -18,10 +18,9 @@ use crate::history::{
     History, Note, forget_notes, mark_changes, new_history, renew_note, undo_to_mark,
 };
 use crate::{Job, JobTest, Placement};
-use busy_times::{BusyPlaces, Span, Timelines, add_time, after_busy, clear_times, remove_time};
-use drawn_power::{
-    Draw, Point, add_drawn, after_power, are_low, calm_end, drop_last_unused, push_draws,
-    take_drawn,
+use busy_times::{
+    BusyPlaces, Draw, Point, Span, Timelines, add_drawn, add_time, after_busy, after_power,
+    are_low, calm_end, clear_times, drop_last_unused, push_draws, remove_time, take_drawn,
 };
 use live_tests::Neighbours;
 use outside::NoMemory;

@@ -1,7 +1,8 @@
 //! Files of the rig, and plans in them, beside each other.
+use crate::lines::part;
+use crate::rig::Rig;
 use outside::{NoMemory, copied};
 use plan_text::read_plan;
-use row_calls::{Rig, part};
 
 /// The word of a test.
 fn yes_or_no(holds: bool) -> &'static [u8] {

@@ -1,6 +1,6 @@
 //! Parts of what a run wrote, by the words with which lines begin.
+use crate::rig::Rig;
 use outside::{NoMemory, extend};
-use row_calls::Rig;
 
 /// The bytes before the first space or the end of a line.
 fn first_word(line: &[u8]) -> &[u8] {

@@ -3,13 +3,26 @@
 //! differs, and then how many rows passed.
 #![tactic(auto)]
 
+mod archs;
+mod bus_cases;
+mod calls;
+mod chips;
 mod comparing;
+mod frames;
+mod held;
 mod keeping;
+mod lines;
+mod made_chips;
+mod plans;
 mod proving;
 mod real_files;
+mod rig;
 mod row_report;
 mod rows;
 mod runs;
+mod searches;
+mod sessions;
+mod texts;
 
 use crate::row_report::RowReport;
 use crate::rows::take_file;

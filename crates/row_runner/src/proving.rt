@@ -1,7 +1,9 @@
 //! A proof that is found for chip and limits that the call resolves itself; `prove` resolves them once, and calls another.
+use crate::held::{chip_of, limits_of};
+use crate::lines::{count_of, part};
+use crate::rig::Rig;
 use bound_prover::proved;
 use outside::{NoMemory, copied};
-use row_calls::{Rig, chip_of, count_of, limits_of, part};
 
 /// `proved CYCLES NODES`: the text of a proof for SOC under LIMITS that claims at most so many cycles and has at most so many nodes.
 pub fn text_of_proved(rig: &Rig, words: &str) -> Result<Vec<u8>, NoMemory> {

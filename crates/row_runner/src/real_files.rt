@@ -1,8 +1,9 @@
 //! Files of the system: loads of them, and runs of the commands over them with a file as the output.
+use crate::lines::{count_of, part};
+use crate::rig::Rig;
 use crate::runs::{ended, words_of};
-use all_commands::run_command;
-use outside::{Loaded, MemSink, NoMemory, RealShelf, RealSink, Shelf, copied, push_number};
-use row_calls::{Rig, count_of, part};
+use outside::{Loaded, NoMemory, RealShelf, RealSink, Shelf, copied, push_number};
+use soctest::soctest;
 use std::fs;
 use std::rt::Files;
 
@@ -36,8 +37,7 @@ pub fn run_of_real_files<R: Files + AllocGlobal>(rt: &R, words: &str) -> Result<
     };
     let mut shelf = RealShelf::new(rt);
     let mut out = RealSink::new(file);
-    let mut progress = MemSink::new(alloc, 0, 1)?;
-    let status = run_command(alloc, words.as_slice(), &mut shelf, &mut out, &mut progress);
+    let status = soctest(alloc, words.as_slice(), &mut shelf, &mut out);
     let mut written = Vec::new(alloc);
     match shelf.load("written", u64::MAX, &mut written) {
         Loaded::Whole => ended(alloc, status, &written),

@@ -1,16 +1,20 @@
 //! A file of rows, line by line.
 
+use crate::archs::cycles_of_steps;
+use crate::bus_cases::answer_to_proof;
+use crate::calls::{printed_again, session_of_plan, under_the_plan};
 use crate::comparing::{are_same, takes_fewer};
 use crate::keeping::keep_lines;
+use crate::lines::{RowLine, line_of, part};
+use crate::made_chips::text_of_made_chip;
+use crate::plans::{text_of_lower_time, text_of_planned};
 use crate::proving::text_of_proved;
 use crate::real_files::{hold_data, run_of_real_files, what_a_load_answers};
+use crate::rig::Rig;
 use crate::row_report::RowReport;
 use crate::runs::run_of_command;
+use crate::texts::is_text;
 use outside::{Loaded, NoMemory, RealShelf, Shelf, copied};
-use row_calls::{
-    Rig, RowLine, answer_to_proof, cycles_of_steps, is_text, line_of, part, printed_again,
-    session_of_plan, text_of_lower_time, text_of_made_chip, text_of_planned, under_the_plan,
-};
 use std::rt::Files;
 
 /// The greatest length of a file of rows, in bytes.

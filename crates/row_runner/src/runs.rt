@@ -1,8 +1,9 @@
 //! Runs of the commands over files in memory.
-use all_commands::run_command;
+use crate::lines::word_of;
+use crate::rig::Rig;
 use commands::Status;
 use outside::{NoMemory, extend, push, push_number};
-use row_calls::{Rig, word_of};
+use soctest::soctest_with_progress;
 use std::alloc::Global;
 
 /// The words of a text, as those of a command line: `""` is an empty one.
@@ -32,7 +33,7 @@ pub fn run_of_command(rig: &mut Rig, words: &str) -> Result<Vec<u8>, NoMemory> {
     let words = words_of(alloc, words)?;
     let mut out = rig.output()?;
     let mut progress = rig.second_output()?;
-    let status = run_command(
+    let status = soctest_with_progress(
         alloc,
         words.as_slice(),
         &mut rig.shelf,

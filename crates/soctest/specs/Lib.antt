@@ -1,15 +1,3 @@
-pub mod Endings
+pub mod Commands
 pub mod Headlines
-pub mod LocateText
-pub mod LogReadings
-pub mod OwnFiles
-pub mod Procedures
-pub mod Samples
-pub mod ShiftPrograms
-pub mod SplitEnds
-pub mod SplitText
-pub mod Texts
-pub mod TreeBounds
-pub mod TreeReadings
-pub mod TreeTexts
-pub mod WidthsText
+pub mod Reports

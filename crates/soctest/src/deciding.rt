@@ -1,379 +1,279 @@
-//! Decides how a command ends before anything is written. Where another file comes after those of a plan or a chip, what was
-//! loaded is dropped by a call, as the room of a checker is.
-ghost use Rattle.std.specs.Prelude.{◌≡◌, ◌≤◌, ℕ, Option, Some, IfOk, IfSome, map, string_bytes};
-ghost use Rattle.outside.specs.Held.{Files};
-ghost use Rattle.soc_model.specs.Chips.{soc_value};
-ghost use Rattle.soc_model.specs.SoundChips.{IsSoundChip};
-ghost use Rattle.plan_model.specs.Plans.{PlanValue};
-ghost use Rattle.plan_model.specs.SoundLimits.{IsSoundLimits};
-ghost use Rattle.plan_model.specs.Views.{limits_value, plan_value};
-ghost use Rattle.plan_text.specs.PlanLines.{plan_text};
-ghost use Rattle.chart.specs.ChartText.{chart_text};
-ghost use Rattle.schedule_search.specs.Estimates.{CanAsk, IsAtLeastReady, IsAtMostNow};
-ghost use Rattle.planner.specs.Plans.{IsPlanned};
-ghost use Rattle.plan_model.specs.declared.TheConstants.{WIRES_MOST};
-ghost use Rattle.commands.specs.Commands.{Print, Widths, Plan as MakePlan, Check, Chart, Vectors, Sample, Locate, Tree, Split, Shift, IsInRange, command_of as asked_command};
-ghost use Rattle.commands.specs.Procedures.{asked};
+//! Takes each command to the part of the program that answers it.
+ghost use Rattle.std.specs.Prelude.{◌≡◌, ◌≤◌, None, IfSome, option_map};
+ghost use Rattle.commands.specs.Commands.{IsInRange, command_value};
+ghost use Rattle.commands.specs.Decides.{Decides};
 ghost use Rattle.commands.specs.Endings.{Closes, LoadsEnding};
-ghost use Rattle.soctest.specs.Endings.{ending_value};
-ghost use Rattle.soctest.specs.Procedures.{procedure_of};
-ghost use Rattle.soctest.specs.Texts.{accepted_line as accepted_text};
-ghost use Rattle.commands.specs.Decides.{Follows};
-ghost use Rattle.commands.specs.Ends.{IsCommand};
 ghost use Rattle.commands.specs.Loads.{LoadsGive};
+ghost use Rattle.tester_commands.specs.Endings.{ending_value};
+ghost use Rattle.soctest.specs.Commands.{part_of as the_part_of, procedure_of, requested};
+ghost use Rattle.soctest.specs.Reports.{IsQuiet, IsQuietOf, MayReport, MayReportOf};
 
-use crate::ending::Ending;
-use crate::lines::accepted_line;
-use crate::own_files::{OwnFile, answer_own_file};
-use crate::samples::decide_sample;
-use crate::splitting::decide_split;
-use crate::widths::widths_text;
-use chart::print_placed;
-use commands::{
-    Accepted, Both, Command, Status, Verdict, answered_with, bad_words, command_of, load_all,
-    load_both, load_chip,
+use bound_commands::{decide_bound, decide_picture, decide_picture_with_proof, decide_tree};
+use bound_prover::decide_prove;
+use commands::{Command, Verdict, bad_words};
+use outside::{Shelf, Sink};
+use plan_commands::{
+    decide_chart, decide_check, decide_locate, decide_plan, decide_print, decide_report,
+    decide_sample, decide_shift, decide_split, decide_widths,
 };
-use live_tests::{Problem, Resolved};
-use outside::{NoMemory, Shelf};
-use plan_model::{Limits, Plan, good_without_limits};
-use plan_text::print_plan;
-use planner::plan_with;
-use resource_table::Table;
-use schedule_search::Ahead;
-use soc_model::Soc;
-use soc_printer::print_soc;
+use plan_improver::{Drawing, decide_improve};
 use std::alloc::Global;
+use tester_commands::{
+    Ending, RunForm, decide_data, decide_run, decide_simulate, decide_vectors, decided,
+};
 
-/// `print SOC`: the chip's text.
-fn decide_print<H: Shelf>(alloc: Global, soc: &str, shelf: &mut H) -> Verdict
-    ensures held_stays { H.held shelf.new ≡ H.held shelf.old }
-    ensures faults_never_fall { H.faults shelf.old ≤ H.faults shelf.new }
-    ensures follows { Follows (procedure_of (Print soc.now)) (H.held shelf.old) (H.faults shelf.old)
-        (H.faults shelf.new) result }
-    ensures by_loads { LoadsGive H.is_load (procedure_of (Print soc.now))
-        shelf.old result shelf.new }
+/// The parts of the program, each of which answers the commands of one subject.
+#[derive(Clone, Copy, PartialEq, Eq, Debug)]
+pub(crate) enum Part {
+    /// Chips and plans.
+    Plans,
+    /// What a tester reads.
+    Testers,
+    /// Bounds that are shown, and pictures of them.
+    Bounds,
+    /// Searches that report their progress.
+    Searches,
+}
+
+/// The part of the program that a command belongs to.
+fn part_of(command: Command<'_>) -> Part
+    ensures { result ≡ the_part_of (command_value command.entry) }
 {
-    match load_chip(alloc, soc, shelf) {
-        Ok(chip) => answered_with(Status::Done, print_soc(alloc, &chip)),
-        Err(verdict) => verdict,
+    match command {
+        Command::Print { .. }
+        | Command::Widths { .. }
+        | Command::Plan { .. }
+        | Command::Check { .. }
+        | Command::Chart { .. }
+        | Command::Sample { .. }
+        | Command::Locate { .. }
+        | Command::Split { .. }
+        | Command::Shift { .. }
+        | Command::Report { .. } => Part::Plans,
+        Command::Vectors { .. }
+        | Command::Simulate { .. }
+        | Command::Data { .. }
+        | Command::Retarget { .. }
+        | Command::Stil { .. }
+        | Command::Vcd { .. }
+        | Command::Verilog { .. } => Part::Testers,
+        Command::Tree { .. }
+        | Command::Bound { .. }
+        | Command::Picture { .. }
+        | Command::PictureWithProof { .. } => Part::Bounds,
+        Command::Improve { .. } | Command::Prove { .. } => Part::Searches,
     }
 }
 
-/// `widths SOC WIRES`: the cycles of each module's tests over the wires, at each width.
-fn decide_widths<H: Shelf>(alloc: Global, soc: &str, wires: u64, shelf: &mut H) -> Verdict
-    requires some { 1 ≤ wires }
-    requires few { wires ≤ WIRES_MOST }
+/// Decides how a command over chips and plans ends.
+#[tactic(auto, unfolding(crate::specs::Commands::procedure_of))]
+fn decide_plans<H: Shelf>(alloc: Global, command: Command<'_>, shelf: &mut H) -> Verdict
+    requires part { the_part_of (command_value command) ≡ Part.Plans }
+    requires range { IsInRange (command_value command) }
     ensures held_stays { H.held shelf.new ≡ H.held shelf.old }
     ensures faults_never_fall { H.faults shelf.old ≤ H.faults shelf.new }
-    ensures follows { Follows (procedure_of (Widths soc.now wires)) (H.held shelf.old)
+    ensures decides { Decides (procedure_of (command_value command.entry)) (H.held shelf.old)
         (H.faults shelf.old) (H.faults shelf.new) result }
-    ensures by_loads { LoadsGive H.is_load (procedure_of (Widths soc.now wires))
-        shelf.old result shelf.new }
+    ensures by_loads { LoadsGive H.is_load (procedure_of (command_value command.entry)) shelf.old
+        result shelf.new }
 {
-    match load_chip(alloc, soc, shelf) {
-        Ok(chip) => answered_with(Status::Done, widths_text(alloc, &chip, wires)),
-        Err(verdict) => verdict,
+    match command {
+        Command::Print { soc } => decide_print(alloc, soc, shelf),
+        Command::Widths { soc, wires } => decide_widths(alloc, soc, wires, shelf),
+        Command::Plan { soc, limits } => decide_plan(alloc, soc, limits, shelf),
+        Command::Check { soc, limits, plan } => decide_check(alloc, soc, limits, plan, shelf),
+        Command::Chart { soc, limits, plan } => decide_chart(alloc, soc, limits, plan, shelf),
+        Command::Report { soc, limits, plan } => decide_report(alloc, soc, limits, plan, shelf),
+        Command::Sample { n, seed } => decide_sample(alloc, n, seed),
+        Command::Locate {
+            soc,
+            limits,
+            plan,
+            log,
+        } => decide_locate(alloc, soc, limits, plan, log, shelf),
+        Command::Split { soc, limits, most } => decide_split(alloc, soc, limits, most, shelf),
+        Command::Shift {
+            soc,
+            limits,
+            plan,
+            program,
+        } => decide_shift(alloc, soc, limits, plan, program, shelf),
+        _ => bad_words(alloc),
     }
 }
 
-/// The planner's plan, whose search estimates where a test would end if it were placed now. `NoMemory` where memory runs out, and for
-/// no other reason.
-pub(crate) fn planned(alloc: Global, problem: &Problem<'_>) -> Result<Plan, NoMemory>
-    ensures { IfOk result (λ plan. IsPlanned problem.now.soc problem.now.limits (plan_value plan)) }
-{
-    let ahead = Ahead::new(
-        |table: &Table<'_>, test: usize| -> u64
-            requires { CanAsk table.now test }
-            ensures least { IsAtLeastReady table.now test result }
-            ensures most { IsAtMostNow table.now test result }
-        { table.end_now(test) },
-    );
-    plan_with(alloc, problem, ahead)
-}
-
-/// The planner's plan for a chip and limits that aren't resolved yet.
-pub(crate) fn planned_for(alloc: Global, soc: &Soc, limits: &Limits) -> Result<Plan, NoMemory>
-    requires chip { IsSoundChip (soc_value soc.now) }
-    requires limits { IsSoundLimits (soc_value soc.now) (limits_value limits.now) }
-    ensures { IfOk result
-        (λ plan. IsPlanned (soc_value soc.now) (limits_value limits.now) (plan_value plan)) }
-{
-    let resolved = Resolved::new(alloc, soc, limits)?;
-    let problem = Problem::new(soc, limits, &resolved);
-    let plan = planned(alloc, &problem)?;
-    Ok(plan)
-}
-
-/// The text of the planner's plan.
-fn text_of_plan(alloc: Global, both: &Both) -> Result<Vec<u8>, NoMemory>
-    ensures { IfOk result (λ text. (value : PlanValue)
-        × IsPlanned both.now.soc both.now.limits value × (text.items ≡ plan_text value)) }
-{
-    let plan = planned(alloc, &both.problem())?;
-    print_plan(alloc, &plan)
-}
-
-/// `plan SOC LIMITS`: the planner's plan.
-fn decide_plan<H: Shelf>(alloc: Global, soc: &str, limits: &str, shelf: &mut H) -> Verdict
+/// Decides how a command for testers ends: its text may be written as it is made.
+#[tactic(auto, unfolding(crate::specs::Commands::procedure_of))]
+fn decide_testers<H: Shelf>(alloc: Global, command: Command<'_>, shelf: &mut H) -> Ending
+    requires part { the_part_of (command_value command) ≡ Part.Testers }
     ensures held_stays { H.held shelf.new ≡ H.held shelf.old }
     ensures faults_never_fall { H.faults shelf.old ≤ H.faults shelf.new }
-    ensures follows { Follows (procedure_of (MakePlan soc.now limits.now)) (H.held shelf.old)
-        (H.faults shelf.old) (H.faults shelf.new) result }
-    ensures by_loads { LoadsGive H.is_load (procedure_of (MakePlan soc.now limits.now))
-        shelf.old result shelf.new }
+    ensures closes { Closes (procedure_of (command_value command.entry)) (H.held shelf.old)
+        (H.faults shelf.old) (H.faults shelf.new) (ending_value result) }
+    ensures by_loads { LoadsEnding H.is_load (procedure_of (command_value command.entry)) shelf.old
+        (ending_value result) shelf.new }
 {
-    match load_both(alloc, soc, limits, shelf) {
-        Ok(both) => {
-            let text = text_of_plan(alloc, &both);
-            both.free();
-            answered_with(Status::Done, text)
-        }
-        Err(verdict) => verdict,
+    match command {
+        Command::Vectors {
+            soc,
+            limits,
+            plan,
+            seed,
+        } => decide_vectors(alloc, soc, limits, plan, seed, shelf),
+        Command::Simulate {
+            soc,
+            limits,
+            plan,
+            seed,
+        } => decided(decide_simulate(alloc, soc, limits, plan, seed, shelf)),
+        Command::Data { soc, seed } => decide_data(alloc, soc, seed, shelf),
+        Command::Retarget {
+            soc,
+            limits,
+            plan,
+            data,
+        } => decide_run(alloc, RunForm::Vectors, soc, limits, plan, data, shelf),
+        Command::Stil {
+            soc,
+            limits,
+            plan,
+            data,
+        } => decide_run(alloc, RunForm::Stil, soc, limits, plan, data, shelf),
+        Command::Vcd {
+            soc,
+            limits,
+            plan,
+            data,
+        } => decide_run(alloc, RunForm::Vcd, soc, limits, plan, data, shelf),
+        Command::Verilog {
+            soc,
+            limits,
+            plan,
+            data,
+        } => decide_run(alloc, RunForm::Verilog, soc, limits, plan, data, shelf),
+        _ => decided(bad_words(alloc)),
     }
 }
 
-/// The line of a plan that is accepted.
-fn accepted_line_of(alloc: Global, all: &Accepted) -> Result<Vec<u8>, NoMemory>
-    ensures { IfOk result (λ text. text.items ≡ accepted_text all.now.plan) }
+/// Decides how a command that shows a bound ends.
+#[tactic(auto, unfolding(crate::specs::Commands::procedure_of))]
+fn decide_bounds<H: Shelf>(alloc: Global, command: Command<'_>, shelf: &mut H) -> Verdict
+    requires part { the_part_of (command_value command) ≡ Part.Bounds }
+    ensures held_stays { H.held shelf.new ≡ H.held shelf.old }
+    ensures faults_never_fall { H.faults shelf.old ≤ H.faults shelf.new }
+    ensures decides { Decides (procedure_of (command_value command.entry)) (H.held shelf.old)
+        (H.faults shelf.old) (H.faults shelf.new) result }
+    ensures by_loads { LoadsGive H.is_load (procedure_of (command_value command.entry)) shelf.old
+        result shelf.new }
 {
-    accepted_line(alloc, &all.plan)
+    match command {
+        Command::Tree { soc, limits, tree } => decide_tree(alloc, soc, limits, tree, shelf),
+        Command::Bound { soc, limits, proof } => decide_bound(alloc, soc, limits, proof, shelf),
+        Command::Picture { soc, limits, plan } => decide_picture(alloc, soc, limits, plan, shelf),
+        Command::PictureWithProof {
+            soc,
+            limits,
+            plan,
+            proof,
+        } => decide_picture_with_proof(alloc, soc, limits, plan, proof, shelf),
+        _ => bad_words(alloc),
+    }
 }
 
-/// `check SOC LIMITS PLAN`: the cycles and the bound of a plan that is accepted.
-fn decide_check<H: Shelf>(
+/// Decides how a command that searches ends. `progress` gets the lines that it reports.
+#[tactic(auto, unfolding(crate::specs::Commands::procedure_of))]
+fn decide_searches<H: Shelf, T: Sink>(
     alloc: Global,
-    soc: &str,
-    limits: &str,
-    plan: &str,
+    command: Command<'_>,
     shelf: &mut H,
+    progress: &mut T,
 ) -> Verdict
+    requires part { the_part_of (command_value command) ≡ Part.Searches }
+    requires range { IsInRange (command_value command) }
     ensures held_stays { H.held shelf.new ≡ H.held shelf.old }
     ensures faults_never_fall { H.faults shelf.old ≤ H.faults shelf.new }
-    ensures follows { Follows (procedure_of (Check soc.now limits.now plan.now)) (H.held shelf.old)
+    ensures report_faults_never_fall { T.faults progress.old ≤ T.faults progress.new }
+    ensures decides { Decides (procedure_of (command_value command.entry)) (H.held shelf.old)
         (H.faults shelf.old) (H.faults shelf.new) result }
-    ensures by_loads { LoadsGive H.is_load (procedure_of (Check soc.now limits.now plan.now))
-        shelf.old result shelf.new }
+    ensures by_loads { LoadsGive H.is_load (procedure_of (command_value command.entry)) shelf.old
+        result shelf.new }
+    ensures quiet { IsQuietOf (command_value command.entry) → progress.new ≡ progress.old }
+    ensures reported { MayReportOf (command_value command.entry) (T.written progress.old)
+        (T.written progress.new) }
 {
-    match load_all(alloc, soc, limits, plan, shelf) {
-        Ok(all) => {
-            let line = accepted_line_of(alloc, &all);
-            all.free();
-            answered_with(Status::Done, line)
+    match command {
+        Command::Improve {
+            soc,
+            limits,
+            plan,
+            tries,
+            seed,
+        } => {
+            let by = Drawing { tries, seed };
+            decide_improve(alloc, soc, limits, plan, by, shelf, progress)
         }
-        Err(verdict) => verdict,
+        Command::Prove {
+            soc,
+            limits,
+            plan,
+            nodes,
+        } => decide_prove(alloc, soc, limits, plan, nodes, shelf, progress),
+        _ => bad_words(alloc),
     }
 }
 
-/// The chart of a plan that is accepted.
-fn chart_of(alloc: Global, all: &Accepted) -> Result<Vec<u8>, NoMemory>
-    ensures { IfOk result (λ text. text.items ≡ chart_text all.now.soc all.now.plan) }
-{
-    good_without_limits();
-    print_placed(alloc, &all.placed_plan())
-}
-
-/// `chart SOC LIMITS PLAN`: the schedule of a plan that is accepted.
-fn decide_chart<H: Shelf>(
+/// Decides how a command ends before anything is written.
+///
+/// `progress` gets the lines that `improve` and `prove` report; all other commands leave it as it is.
+fn decide_command<H: Shelf, T: Sink>(
     alloc: Global,
-    soc: &str,
-    limits: &str,
-    plan: &str,
+    command: Command<'_>,
     shelf: &mut H,
-) -> Verdict
-    ensures held_stays { H.held shelf.new ≡ H.held shelf.old }
-    ensures faults_never_fall { H.faults shelf.old ≤ H.faults shelf.new }
-    ensures follows { Follows (procedure_of (Chart soc.now limits.now plan.now)) (H.held shelf.old)
-        (H.faults shelf.old) (H.faults shelf.new) result }
-    ensures by_loads { LoadsGive H.is_load (procedure_of (Chart soc.now limits.now plan.now))
-        shelf.old result shelf.new }
-{
-    match load_all(alloc, soc, limits, plan, shelf) {
-        Ok(all) => {
-            let text = chart_of(alloc, &all);
-            all.free();
-            answered_with(Status::Done, text)
-        }
-        Err(verdict) => verdict,
-    }
-}
-
-/// `vectors SOC LIMITS PLAN SEED`: what a tester drives and compares in a plan that is accepted. It is written as it is made.
-fn decide_vectors<H: Shelf>(
-    alloc: Global,
-    soc: &str,
-    limits: &str,
-    plan: &str,
-    seed: u64,
-    shelf: &mut H,
+    progress: &mut T,
 ) -> Ending
+    requires range { IsInRange (command_value command) }
     ensures held_stays { H.held shelf.new ≡ H.held shelf.old }
     ensures faults_never_fall { H.faults shelf.old ≤ H.faults shelf.new }
-    ensures closes { Closes (procedure_of (Vectors soc.now limits.now plan.now seed))
-        (H.held shelf.old) (H.faults shelf.old) (H.faults shelf.new) (ending_value result) }
-    ensures by_loads { LoadsEnding H.is_load
-        (procedure_of (Vectors soc.now limits.now plan.now seed)) shelf.old (ending_value result)
-        shelf.new }
-{
-    match load_all(alloc, soc, limits, plan, shelf) {
-        Ok(all) => Ending::Run { all, seed },
-        Err(verdict) => Ending::Decided(verdict),
-    }
-}
-
-/// `tree SOC LIMITS TREE`: the bound of a width tree that is accepted.
-fn decide_tree<H: Shelf>(
-    alloc: Global,
-    soc: &str,
-    limits: &str,
-    tree: &str,
-    shelf: &mut H,
-) -> Verdict
-    ensures held_stays { H.held shelf.new ≡ H.held shelf.old }
-    ensures faults_never_fall { H.faults shelf.old ≤ H.faults shelf.new }
-    ensures follows { Follows (procedure_of (Tree soc.now limits.now tree.now)) (H.held shelf.old)
-        (H.faults shelf.old) (H.faults shelf.new) result }
-    ensures by_loads { LoadsGive H.is_load (procedure_of (Tree soc.now limits.now tree.now))
-        shelf.old result shelf.new }
-{
-    match load_both(alloc, soc, limits, shelf) {
-        Ok(both) => {
-            let verdict = answer_own_file(alloc, OwnFile::Tree(&both), tree, shelf);
-            both.free();
-            verdict
-        }
-        Err(verdict) => verdict,
-    }
-}
-
-/// `locate SOC LIMITS PLAN LOG`: which cells the fails of a log name in a plan that is accepted.
-fn decide_locate<H: Shelf>(
-    alloc: Global,
-    soc: &str,
-    limits: &str,
-    plan: &str,
-    log: &str,
-    shelf: &mut H,
-) -> Verdict
-    ensures held_stays { H.held shelf.new ≡ H.held shelf.old }
-    ensures faults_never_fall { H.faults shelf.old ≤ H.faults shelf.new }
-    ensures follows { Follows (procedure_of (Locate soc.now limits.now plan.now log.now))
-        (H.held shelf.old) (H.faults shelf.old) (H.faults shelf.new) result }
-    ensures by_loads { LoadsGive H.is_load
-        (procedure_of (Locate soc.now limits.now plan.now log.now)) shelf.old result shelf.new }
-{
-    match load_all(alloc, soc, limits, plan, shelf) {
-        Ok(all) => {
-            let verdict = answer_own_file(alloc, OwnFile::Log(&all), log, shelf);
-            all.free();
-            verdict
-        }
-        Err(verdict) => verdict,
-    }
-}
-
-/// `shift SOC LIMITS PLAN PROGRAM`: whether a program is right for its test in a plan that is accepted.
-fn decide_shift<H: Shelf>(
-    alloc: Global,
-    soc: &str,
-    limits: &str,
-    plan: &str,
-    program: &str,
-    shelf: &mut H,
-) -> Verdict
-    ensures held_stays { H.held shelf.new ≡ H.held shelf.old }
-    ensures faults_never_fall { H.faults shelf.old ≤ H.faults shelf.new }
-    ensures follows { Follows (procedure_of (Shift soc.now limits.now plan.now program.now))
-        (H.held shelf.old) (H.faults shelf.old) (H.faults shelf.new) result }
-    ensures by_loads { LoadsGive H.is_load
-        (procedure_of (Shift soc.now limits.now plan.now program.now)) shelf.old result shelf.new }
-{
-    match load_all(alloc, soc, limits, plan, shelf) {
-        Ok(all) => {
-            let verdict = answer_own_file(alloc, OwnFile::Program(&all), program, shelf);
-            all.free();
-            verdict
-        }
-        Err(verdict) => verdict,
-    }
-}
-
-/// Decides how the command of these words ends. Words of no command leave the shelf untouched.
-pub fn decide<H: Shelf>(alloc: Global, words: &[String], shelf: &mut H) -> Ending
-    ensures held_stays { H.held shelf.new ≡ H.held shelf.old }
-    ensures faults_never_fall { H.faults shelf.old ≤ H.faults shelf.new }
-    ensures closes { Closes (asked procedure_of (asked_command (map string_bytes words.now)))
-        (H.held shelf.old) (H.faults shelf.old) (H.faults shelf.new) (ending_value result) }
-    ensures by_loads { LoadsEnding H.is_load
-        (asked procedure_of (asked_command (map string_bytes words.now)))
+    ensures report_faults_never_fall { T.faults progress.old ≤ T.faults progress.new }
+    ensures closes { Closes (procedure_of (command_value command.entry)) (H.held shelf.old)
+        (H.faults shelf.old) (H.faults shelf.new) (ending_value result) }
+    ensures by_loads { LoadsEnding H.is_load (procedure_of (command_value command.entry))
         shelf.old (ending_value result) shelf.new }
-    ensures untouched { (IsCommand
-        (asked procedure_of (asked_command (map string_bytes words.now))) → ⊥) →
-        shelf.new ≡ shelf.old }
-    ensures range { IfSome (asked_command (map string_bytes words.now)) IsInRange }
-    ensures sampled { (n seed : ℕ) →
-        asked_command (map string_bytes words.now) ≡ Some (Sample n seed) → (held : Option Files) →
-        Closes (procedure_of (Sample n seed)) held (H.faults shelf.old) (H.faults shelf.new)
-        (ending_value result) }
+    ensures quiet { IsQuietOf (command_value command.entry) → progress.new ≡ progress.old }
+    ensures reported { MayReportOf (command_value command.entry) (T.written progress.old)
+        (T.written progress.new) }
 {
-    match command_of(words) {
-        Some(Command::Print { soc }) => Ending::Decided(decide_print(alloc, soc, shelf)),
-        Some(Command::Widths { soc, wires }) => Ending::Decided(decide_widths(
-            alloc, soc, wires, shelf,
-        )),
-        Some(Command::Plan { soc, limits }) => Ending::Decided(decide_plan(
-            alloc, soc, limits, shelf,
-        )),
-        Some(Command::Check { soc, limits, plan }) => Ending::Decided(decide_check(
-            alloc, soc, limits, plan, shelf,
-        )),
-        Some(Command::Chart { soc, limits, plan }) => Ending::Decided(decide_chart(
-            alloc, soc, limits, plan, shelf,
-        )),
-        Some(
-            Command::Vectors {
-                soc,
-                limits,
-                plan,
-                seed,
-            },
-        ) => decide_vectors(alloc, soc, limits, plan, seed, shelf),
-        Some(Command::Sample { n, seed }) => Ending::Decided(decide_sample(alloc, n, seed)),
-        Some(
-            Command::Locate {
-                soc,
-                limits,
-                plan,
-                log,
-            },
-        ) => Ending::Decided(decide_locate(alloc, soc, limits, plan, log, shelf)),
-        Some(
-            Command::Shift {
-                soc,
-                limits,
-                plan,
-                program,
-            },
-        ) => Ending::Decided(decide_shift(alloc, soc, limits, plan, program, shelf)),
-        Some(Command::Tree { soc, limits, tree }) => Ending::Decided(decide_tree(
-            alloc, soc, limits, tree, shelf,
-        )),
-        Some(Command::Split { soc, limits, most }) => Ending::Decided(decide_split(
-            alloc, soc, limits, most, shelf,
-        )),
-        Some(
-            Command::Improve { .. }
-            | Command::Picture { .. }
-            | Command::Simulate { .. }
-            | Command::Bound { .. }
-            | Command::Prove { .. }
-            | Command::Data { .. }
-            | Command::Retarget { .. }
-            | Command::Stil { .. }
-            | Command::Vcd { .. }
-            | Command::Verilog { .. }
-            | Command::Report { .. }
-            | Command::PictureWithProof { .. },
-        )
-        | None => Ending::Decided(bad_words(alloc)),
+    match part_of(command) {
+        Part::Plans => decided(decide_plans(alloc, command, shelf)),
+        Part::Testers => decide_testers(alloc, command, shelf),
+        Part::Bounds => decided(decide_bounds(alloc, command, shelf)),
+        Part::Searches => decided(decide_searches(alloc, command, shelf, progress)),
+    }
+}
+
+/// Decides how a call ends before anything is written. Where there is no command, the words were bad, and the shelf is untouched.
+#[tactic(auto, unfolding(crate::specs::Commands::requested, crate::specs::Reports::IsQuiet, crate::specs::Reports::MayReport))]
+pub(crate) fn decide<H: Shelf, T: Sink>(
+    alloc: Global,
+    command: Option<Command<'_>>,
+    shelf: &mut H,
+    progress: &mut T,
+) -> Ending
+    requires range { IfSome (option_map command_value command) IsInRange }
+    ensures held_stays { H.held shelf.new ≡ H.held shelf.old }
+    ensures faults_never_fall { H.faults shelf.old ≤ H.faults shelf.new }
+    ensures report_faults_never_fall { T.faults progress.old ≤ T.faults progress.new }
+    ensures closes { Closes (requested (option_map command_value command.entry)) (H.held shelf.old)
+        (H.faults shelf.old) (H.faults shelf.new) (ending_value result) }
+    ensures by_loads { LoadsEnding H.is_load (requested (option_map command_value command.entry))
+        shelf.old (ending_value result) shelf.new }
+    ensures untouched { option_map command_value command.entry ≡ None → shelf.new ≡ shelf.old }
+    ensures quiet { IsQuiet (option_map command_value command.entry) → progress.new ≡ progress.old }
+    ensures reported { MayReport (option_map command_value command.entry) (T.written progress.old)
+        (T.written progress.new) }
+{
+    match command {
+        Some(command) => decide_command(alloc, command, shelf, progress),
+        None => decided(bad_words(alloc)),
     }
 }

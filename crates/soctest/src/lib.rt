@@ -1,20 +1,11 @@
-//! The eleven commands: from the words of a command line and a shelf of files to an answer that is decided first and then written
-//! once. The program over real files and standard output is `soctest_main`.
+//! The whole program over any files and outputs: from the words of a command line and a shelf of files to an answer, which is
+//! decided first and then written once. The program over the files of the system and standard output is `soctest_program`.
 #![tactic(auto)]
 
 mod deciding;
-mod ending;
-mod fails;
-mod lines;
-mod logs;
-mod own_files;
-mod programs;
-mod samples;
-mod splitting;
+mod limits;
 mod top;
-mod tree_lines;
-mod trees;
-mod widths;
 
 pub use commands::Status;
-pub use top::soctest;
+pub use limits::limits_are_as_written;
+pub use top::{soctest, soctest_with_progress};

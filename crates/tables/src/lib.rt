@@ -1,12 +1,24 @@
-//! Lists that are read and written at any place, for searches that owe nothing of what they find.
+//! Lists that are read and written at any place, sets and shares in whole numbers, for searches that owe nothing of what they find.
 //!
 //! A search whose answer is checked by others keeps its numbers in tables, and finds their places by sums. These calls ask for no
-//! proof that a place is there: what is not there reads as a given item, and is not written.
+//! proof that a place is there: what is not there reads as a given item, and is not written. A set of places is a row of marks, 64
+//! places in a word; rows of several sets stand one behind another. A share is a part of a whole, which is [`ONE`].
 #![tactic(auto)]
 
 ghost use Rattle.std.specs.Prelude.{◌≡◌, length, slice_index_or, slice_set, IfOk};
 
+mod fractions;
+mod items;
+mod marks;
+mod shares;
+
+pub use fractions::{FRACTION_PLACES, HALF, UNIT, cut_off, wide_product};
+pub use items::{copy_items, fill_items, part, part_mut};
+pub use marks::{
+    first_mark, mark_place, marked, set_mark, sum_of_marked, unmark_place, without_first, words_for,
+};
 use outside::NoMemory;
+pub use shares::{ONE, SHARE_PLACES, as_number, as_part, share_of, short_share};
 use std::alloc::Global;
 
 /// No place.

@@ -1,7 +1,7 @@
 use Rattle.std.proofs.Common.{◌≡◌, ◌∙◌, ◌≤◌, ℕ, Some, [], length, ap, arith, slice_get, filter}
 use Rattle.plan_model.specs.Views.{limits_value, plan_value}
 use Rattle.live_tests.specs.declared.placed.PlacedTest.{PlacedTest}
-use Rattle.power_events.specs.Loads.{drawn_by, load_steps}
+use Rattle.live_tests.specs.Loads.{drawn_by, load_steps}
 use Rattle.picture.specs.Panels.{below, lanes_panel}
 use Rattle.picture.specs.PictureText.{bottom_of, lanes_of, self_tests}
 use Rattle.picture.specs.Rectangles.{between, bus_wires, by_start, is_self, lane_ends, laned, wired}

@@ -4,8 +4,8 @@ use Rattle.plan_model.specs.Plans.{LimitsValue, PlanValue, step_power, widths}
 use Rattle.plan_model.specs.Views.{limits_value, plan_value}
 use Rattle.live_tests.specs.declared.placed.PlacedTest.{PlacedTest}
 use Rattle.live_tests.specs.Placed.{placed_tests}
-use Rattle.power_events.specs.Events.{HasSteps}
-use Rattle.power_events.specs.Loads.{drawn_by, load_steps}
+use Rattle.live_tests.specs.Events.{HasSteps}
+use Rattle.live_tests.specs.Loads.{drawn_by, load_steps}
 use Rattle.report.specs.Chains.{chain_text}
 use Rattle.report.specs.Peaks.{no_power, peak_after}
 use Rattle.report.specs.PlacedTests.{AreTests, StandIn}

@@ -1,6 +1,6 @@
 use Rattle.std.proofs.Common.{List, rules, length, sym, subst, All}
-use Rattle.bus_changes.specs.declared.dealing.DealtModule.{DealtModule}
-use Rattle.bus_changes.specs.Dealing.{IsTaken}
+use Rattle.arch_schedule.specs.declared.dealing.DealtModule.{DealtModule}
+use Rattle.arch_schedule.specs.Dealing.{IsTaken}
 use Rattle.arch_search.proofs.Searching.{none_taken}
 use Rattle.arch_search.proofs.search.no_modules.Goals as goal
 

@@ -1,7 +1,7 @@
 use Rattle.std.proofs.Common.{◌≡◌, true, arith, rules, sym, subst}
 use Rattle.std.proofs.lemmas.List.{length-map}
 use Rattle.std.proofs.lemmas.Result.{IfOk-weaker}
-use Rattle.proof_model.specs.Proofs.{ProofValue, node_value, proof_value}
+use Rattle.plan_model.specs.Proofs.{ProofValue, node_value, proof_value}
 use Rattle.bus_proofs.specs.Bounds.{IsAccepted}
 use Rattle.proof_text.specs.ProofLines.{proof_text}
 use Rattle.bound_prover.specs.Proved.{IsProofText, IsReadable}

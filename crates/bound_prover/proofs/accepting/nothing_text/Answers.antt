@@ -1,9 +1,9 @@
 use Rattle.std.proofs.Common.{◌++◌, ◌∷◌, [], List, ap, refl, ◌∙◌}
-use Rattle.proof_model.specs.declared.Node.{Node}
-use Rattle.proof_model.specs.declared.Proof.{Proof}
-use Rattle.proof_model.specs.declared.Weights.{Weights}
-use Rattle.proof_model.specs.declared.Node.TheVariants.{Sum}
-use Rattle.proof_model.specs.Proofs.{proof_value}
+use Rattle.plan_model.specs.declared.proof.Node.{Node}
+use Rattle.plan_model.specs.declared.proof.Proof.{Proof}
+use Rattle.plan_model.specs.declared.proof.Weights.{Weights}
+use Rattle.plan_model.specs.declared.proof.Node.TheVariants.{Sum}
+use Rattle.plan_model.specs.Proofs.{proof_value}
 use Rattle.bound_prover.proofs.Printing.{nothing_value, nothing_printed}
 use Rattle.bound_prover.proofs.accepting.nothing_text.Goals as goal
 

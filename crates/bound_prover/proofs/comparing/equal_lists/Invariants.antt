@@ -1,5 +1,5 @@
 use Rattle.std.proofs.Common.{◌≡◌, map, take}
-use Rattle.proof_model.specs.Proofs.{list_value}
+use Rattle.plan_model.specs.Proofs.{list_value}
 use Rattle.bound_prover.proofs.comparing.equal_lists.Given as goal
 
 abbrev pub invariant-loop-place : goal.invariant-loop-place

@@ -5,7 +5,7 @@ use Rattle.commands.specs.Procedures.{done_with_any}
 use Rattle.commands.proofs.FileStages.{may_be_done, gives_text}
 use Rattle.commands.proofs.AllFiles.{not_all, after_all}
 use Rattle.commands.proofs.LoadStages.{after_three, stops_all, any_loaded}
-use Rattle.bound_prover.proofs.Answering.{Proves}
+use Rattle.bound_prover.proofs.Kept.{Proves}
 use Rattle.bound_prover.proofs.deciding.decide_prove.Goals as goal
 
 pub returns-in-Ok-clause-follows : goal.returns-in-Ok-clause-follows

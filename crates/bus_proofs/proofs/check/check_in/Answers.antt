@@ -1,6 +1,6 @@
 use Rattle.std.proofs.Common.{arith}
 use Rattle.std.proofs.lemmas.List.{length-map}
-use Rattle.proof_model.specs.Proofs.{list_value}
+use Rattle.plan_model.specs.Proofs.{list_value}
 use Rattle.leaf_bounds.specs.Bases.{chip_of, limits_of, lists_of, proof_of}
 use Rattle.bus_proofs.proofs.ProofChecks.{all_kept, bad_list, checked_accepted, checked_faulty, room_back}
 use Rattle.bus_proofs.proofs.check.check_in.Goals as goal

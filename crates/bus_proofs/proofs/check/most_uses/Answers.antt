@@ -1,7 +1,7 @@
 use Rattle.std.proofs.Common.{map, arith}
 use Rattle.std.proofs.lemmas.List.{length-map}
 use Rattle.std.proofs.lemmas.Option.{slice_get_within}
-use Rattle.proof_model.specs.Proofs.{OfLeaf, node_value}
+use Rattle.plan_model.specs.Proofs.{OfLeaf, node_value}
 use Rattle.bus_proofs.proofs.ProofChecks.{uses_more}
 use Rattle.bus_proofs.proofs.check.most_uses.Goals as goal
 

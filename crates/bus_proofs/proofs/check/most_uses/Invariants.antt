@@ -1,6 +1,6 @@
 use Rattle.std.proofs.Common.{◌≡◌, ◌<◌, ◌≤◌, ℕ, Some, map, slice_get}
 use Rattle.bus_proofs.specs.Walks.{named_in}
-use Rattle.proof_model.specs.Proofs.{LeafValue, OfLeaf, node_value}
+use Rattle.plan_model.specs.Proofs.{LeafValue, OfLeaf, node_value}
 use Rattle.bus_proofs.proofs.check.most_uses.Given as goal
 
 abbrev pub invariant-loop-place : goal.invariant-loop-place

@@ -1,7 +1,7 @@
 use Rattle.std.proofs.Common.{◌≡◌, ◌+◌, ℕ, suc, drop, subst, arith, Err}
 use Rattle.std.proofs.lemmas.List.{length-map}
 use Rattle.std.proofs.lemmas.Option.{slice_get_within}
-use Rattle.proof_model.specs.Proofs.{node_value}
+use Rattle.plan_model.specs.Proofs.{node_value}
 use Rattle.bus_proofs.specs.Bounds.{all_cases}
 use Rattle.leaf_bounds.specs.Bases.{chip_of, limits_of}
 use Rattle.bus_proofs.specs.Walks.{GoesOn, IsEnoughFor, IsJudged}

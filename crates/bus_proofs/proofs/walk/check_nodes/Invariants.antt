@@ -1,5 +1,5 @@
 use Rattle.std.proofs.Common.{◌≡◌, ◌≤◌, drop}
-use Rattle.proof_model.specs.Proofs.{CaseTree, nodes_of}
+use Rattle.plan_model.specs.Proofs.{CaseTree, nodes_of}
 use Rattle.bus_proofs.specs.Bounds.{all_cases}
 use Rattle.leaf_bounds.specs.CaseRooms.{IsFurther}
 use Rattle.leaf_bounds.specs.Bases.{chip_of, limits_of, proof_of}

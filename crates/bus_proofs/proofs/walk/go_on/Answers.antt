@@ -1,5 +1,5 @@
 use Rattle.std.proofs.Common.{◌+◌, Some, refl, sym, ap, ◌∙◌}
-use Rattle.proof_model.specs.Proofs.{OfPlace, OfSplit, OfWide, OfSum, OfPack, node_value, pricing_value, weights_value}
+use Rattle.plan_model.specs.Proofs.{OfPlace, OfSplit, OfWide, OfSum, OfPack, node_value, pricing_value, weights_value}
 use Rattle.bus_proofs.proofs.RoomSteps.{further_then}
 use Rattle.bus_proofs.proofs.WalkSteps.{leaf_awaits, leaf_enough, split_goes, split_judged, split_work}
 use Rattle.bus_proofs.proofs.walk.go_on.Goals as goal

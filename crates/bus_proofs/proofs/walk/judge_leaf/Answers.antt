@@ -1,5 +1,5 @@
 use Rattle.std.proofs.Common.{refl, ap, length}
-use Rattle.proof_model.specs.Proofs.{OfSum, weights_value}
+use Rattle.plan_model.specs.Proofs.{OfSum, weights_value}
 use Rattle.bus_proofs.proofs.ProofChecks.{fits_after}
 use Rattle.bus_proofs.proofs.walk.judge_leaf.Goals as goal
 

@@ -1,5 +1,5 @@
 use Rattle.std.proofs.Common.{refl}
-use Rattle.proof_model.specs.Proofs.{OfPack, pricing_value}
+use Rattle.plan_model.specs.Proofs.{OfPack, pricing_value}
 use Rattle.bus_proofs.proofs.ProofChecks.{fits_after}
 use Rattle.bus_proofs.proofs.walk.judge_pack.Goals as goal
 

@@ -1,4 +1,4 @@
-use Rattle.cycle_forms.specs.Rows.{option_row, row_of}
+use Rattle.cycle_texts.specs.Rows.{option_row, row_of}
 use Rattle.cycle_texts.proofs.BlockRows.{before_fits, row_fits}
 use Rattle.cycle_texts.proofs.parts.put_part.Goals as goal
 

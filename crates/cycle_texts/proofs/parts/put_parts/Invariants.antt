@@ -1,6 +1,6 @@
 use Rattle.std.proofs.Common.{◌≡◌, ◌+◌, ◌-◌, ◌≤◌, ℕ, length, take, false}
 use Rattle.outside.specs.Puts.{Puts}
-use Rattle.cycle_forms.specs.Rows.{CycleRow}
+use Rattle.cycle_texts.specs.Rows.{CycleRow}
 use Rattle.cycle_texts.specs.ProgramText.{parts_of}
 use Rattle.cycle_texts.specs.RowBlocks.{HasRows}
 use Rattle.cycle_texts.specs.UnderWay.{IsUnderWay}

@@ -1,5 +1,5 @@
 use Rattle.std.proofs.Common.{◌≡◌, ℕ, true, false, map, arith}
-use Rattle.proof_model.specs.Proofs.{list_value}
+use Rattle.plan_model.specs.Proofs.{list_value}
 use Rattle.leaf_bounds.proofs.LeafAnswers.{all_named, named_next}
 use Rattle.leaf_bounds.proofs.leaf.are_named.Goals as goal
 

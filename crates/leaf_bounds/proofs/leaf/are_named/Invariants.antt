@@ -1,5 +1,5 @@
 use Rattle.std.proofs.Common.{map, take, All}
-use Rattle.proof_model.specs.Proofs.{list_value}
+use Rattle.plan_model.specs.Proofs.{list_value}
 use Rattle.leaf_bounds.specs.LeafSlots.{IsNamed}
 use Rattle.leaf_bounds.proofs.leaf.are_named.Given as goal
 

@@ -1,5 +1,5 @@
 use Rattle.std.proofs.Common.{rules, ◌≡◌, ◌≤◌, true, false, length, sym, subst, arith}
-use Rattle.proof_model.specs.Proofs.{weights_value}
+use Rattle.plan_model.specs.Proofs.{weights_value}
 use Rattle.leaf_bounds.specs.Cases.{IsEmpty}
 use Rattle.leaf_bounds.specs.Bases.{lists_of}
 use Rattle.leaf_bounds.proofs.LeafAnswers.{found, keeps_rule}

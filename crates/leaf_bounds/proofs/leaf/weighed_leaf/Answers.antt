@@ -1,4 +1,4 @@
-use Rattle.proof_model.specs.Proofs.{weights_value}
+use Rattle.plan_model.specs.Proofs.{weights_value}
 use Rattle.leaf_bounds.proofs.LeafAnswers.{some_bus, concluded}
 use Rattle.leaf_bounds.proofs.leaf.weighed_leaf.Goals as goal
 

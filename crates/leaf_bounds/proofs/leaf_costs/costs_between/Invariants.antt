@@ -1,6 +1,6 @@
 use Rattle.std.proofs.Common.{◌≡◌, ◌+◌, drop, sum_by}
 use Rattle.soc_model.specs.Chips.{live_tests}
-use Rattle.proof_model.specs.Proofs.{WeightsValue}
+use Rattle.plan_model.specs.Proofs.{WeightsValue}
 use Rattle.leaf_bounds.specs.Bases.{chip_of}
 use Rattle.leaf_bounds.specs.LeafCosts.{IsWeighed, kind_cost}
 use Rattle.leaf_bounds.proofs.leaf_costs.costs_between.Given as goal

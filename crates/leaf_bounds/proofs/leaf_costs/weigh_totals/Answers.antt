@@ -1,6 +1,6 @@
 use Rattle.std.proofs.Common.{◌≡◌, ◌+◌, ◌≤◌, ◌<◌, ◌++◌, ◌∷◌, [], ◌^◌, ◌*◌, length, sym, ap, subst, ◌∙◌, arith, slice_index}
 use Rattle.std.proofs.lemmas.List.{length-map}
-use Rattle.proof_model.specs.Proofs.{list_value}
+use Rattle.plan_model.specs.Proofs.{list_value}
 use Rattle.leaf_bounds.specs.Bases.{lists_of}
 use Rattle.leaf_bounds.specs.LeafCosts.{IsMade, all_weights, by_places}
 use Rattle.leaf_bounds.proofs.Totals.{fewer_weights, few_places, places_more}

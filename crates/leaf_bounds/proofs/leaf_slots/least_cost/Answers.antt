@@ -1,5 +1,5 @@
 use Rattle.std.proofs.Common.{sym, subst}
-use Rattle.proof_model.specs.Proofs.{weights_value}
+use Rattle.plan_model.specs.Proofs.{weights_value}
 use Rattle.leaf_bounds.specs.Bases.{chip_of, limits_of, claim_of}
 use Rattle.leaf_bounds.specs.LeafSlots.{IsLeastOf, IsOfModule, costs_at}
 use Rattle.leaf_bounds.proofs.LeafSlots.{module_joined}

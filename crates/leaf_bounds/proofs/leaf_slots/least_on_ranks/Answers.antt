@@ -1,5 +1,5 @@
 use Rattle.std.proofs.Common.{◌≡◌, length, ap, subst, arith}
-use Rattle.proof_model.specs.Proofs.{weights_value}
+use Rattle.plan_model.specs.Proofs.{weights_value}
 use Rattle.leaf_bounds.specs.Cases.{known_ranks}
 use Rattle.leaf_bounds.specs.Bases.{chip_of, claim_of}
 use Rattle.leaf_bounds.specs.LeafSlots.{IsLeastOf, IsOfRanks, costs_at}

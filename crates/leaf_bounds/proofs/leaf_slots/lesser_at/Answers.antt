@@ -1,5 +1,5 @@
 use Rattle.std.proofs.Common.{◌≡◌, ◌*◌, ◌≤◌, None, Some, sym, ap, ◌∙◌, arith}
-use Rattle.packed_times.specs.Packed.{packed_tam_time}
+use Rattle.proof_facts.specs.Packed.{packed_tam_time}
 use Rattle.leaf_bounds.specs.Bases.{chip_of, claim_of}
 use Rattle.leaf_bounds.specs.Leaves.{slot}
 use Rattle.leaf_bounds.specs.LeafCosts.{LEAF_COST_MOST}

@@ -1,6 +1,6 @@
 use Rattle.std.proofs.Common.{◌≡◌, ℕ, ◌+◌, ◌≤◌, ◌<◌, min, sym, subst, arith}
-use Rattle.packed_times.specs.Tables.{TableValue}
-use Rattle.packed_times.specs.Packed.{packed_tam_time}
+use Rattle.proof_facts.specs.Tables.{TableValue}
+use Rattle.proof_facts.specs.Packed.{packed_tam_time}
 use Rattle.leaf_bounds.specs.Bases.{chip_of, claim_of}
 use Rattle.leaf_bounds.specs.LeafSlots.{IsOfRange, costs_at}
 use Rattle.leaf_bounds.proofs.LeafSlots.{jump_costs, no_width, none_lesser, range_ended, range_lesser}

@@ -1,5 +1,5 @@
 use Rattle.std.specs.Prelude.{◌+◌, ◌-◌, ◌≤◌, min, IfSome}
-use Rattle.proof_model.specs.Proofs.{WeightsValue}
+use Rattle.plan_model.specs.Proofs.{WeightsValue}
 use Rattle.leaf_bounds.specs.Bases.{chip_of, claim_of}
 use Rattle.leaf_bounds.specs.LeafCosts.{IsWeighed, LEAF_COST_MOST}
 use Rattle.leaf_bounds.specs.LeafSlots.{IsLesserOf, IsOfRange, costs_at}

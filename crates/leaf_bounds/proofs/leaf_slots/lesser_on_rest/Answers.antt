@@ -1,5 +1,5 @@
 use Rattle.std.proofs.Common.{◌∙◌, ap, arith}
-use Rattle.proof_model.specs.Proofs.{weights_value}
+use Rattle.plan_model.specs.Proofs.{weights_value}
 use Rattle.leaf_bounds.specs.Bases.{chip_of, limits_of, claim_of}
 use Rattle.leaf_bounds.specs.LeafSlots.{IsOfRest, costs_at, rest_range}
 use Rattle.leaf_bounds.proofs.LeafSlots.{may_rest_is, none_lesser, rest_skipped, rest_tried}

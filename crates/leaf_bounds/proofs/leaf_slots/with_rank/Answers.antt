@@ -1,5 +1,5 @@
 use Rattle.std.proofs.Common.{◌∙◌}
-use Rattle.proof_model.specs.Proofs.{weights_value}
+use Rattle.plan_model.specs.Proofs.{weights_value}
 use Rattle.leaf_bounds.proofs.LeafSlots.{may_is}
 use Rattle.leaf_bounds.proofs.LeafAnswers.{kept_off, one_tried, passed}
 use Rattle.leaf_bounds.proofs.leaf_slots.with_rank.Goals as goal

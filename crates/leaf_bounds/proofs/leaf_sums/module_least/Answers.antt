@@ -1,5 +1,5 @@
 use Rattle.std.proofs.Common.{◌∙◌, sym}
-use Rattle.proof_model.specs.Proofs.{weights_value}
+use Rattle.plan_model.specs.Proofs.{weights_value}
 use Rattle.leaf_bounds.proofs.LeafAnswers.{unwired, wired}
 use Rattle.leaf_bounds.proofs.leaf_sums.module_least.Goals as goal
 

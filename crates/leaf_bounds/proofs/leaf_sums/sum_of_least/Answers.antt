@@ -1,5 +1,5 @@
 use Rattle.std.proofs.Common.{◌+◌, arith}
-use Rattle.proof_model.specs.Proofs.{weights_value}
+use Rattle.plan_model.specs.Proofs.{weights_value}
 use Rattle.leaf_bounds.specs.LeafCosts.{LEAF_COST_MOST}
 use Rattle.leaf_bounds.proofs.LeafAnswers.{few_all, few_modules, few_more, sum_more, sum_none}
 use Rattle.leaf_bounds.proofs.leaf_sums.sum_of_least.Goals as goal

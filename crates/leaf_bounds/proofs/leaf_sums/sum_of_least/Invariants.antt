@@ -1,5 +1,5 @@
 use Rattle.std.specs.Prelude.{◌≤◌, ◌*◌, Some}
-use Rattle.proof_model.specs.Proofs.{weights_value}
+use Rattle.plan_model.specs.Proofs.{weights_value}
 use Rattle.leaf_bounds.specs.Cases.{Case}
 use Rattle.leaf_bounds.specs.CaseRooms.{IsCaseOf}
 use Rattle.leaf_bounds.specs.LeafCosts.{LEAF_COST_MOST}

@@ -1,5 +1,5 @@
 use Rattle.std.proofs.Common.{◌*◌, ◌∙◌, ap, rules}
-use Rattle.proof_model.specs.Proofs.{weights_value}
+use Rattle.plan_model.specs.Proofs.{weights_value}
 use Rattle.leaf_bounds.specs.Cases.{spare}
 use Rattle.leaf_bounds.specs.Bases.{limits_of, lists_of}
 use Rattle.leaf_bounds.proofs.LeafAnswers.{worth_is}

@@ -1,5 +1,5 @@
 use Rattle.std.proofs.Common.{◌∙◌, length, ap, arith}
-use Rattle.packed_times.proofs.Rising.{length-rising}
+use Rattle.proof_facts.proofs.Rising.{length-rising}
 use Rattle.leaf_bounds.proofs.list_rules.are_heavy.Goals as goal
 
 pub pass_limit-requires : goal.pass_limit-requires

@@ -1,6 +1,6 @@
 use Rattle.std.proofs.Common.{◌∙◌, ap, subst, sym}
 use Rattle.std.specs.Result.{IfOk}
-use Rattle.proof_model.specs.Proofs.{OfCrowd, OfTurns, OfTurnsOn, list_value}
+use Rattle.plan_model.specs.Proofs.{OfCrowd, OfTurns, OfTurnsOn, list_value}
 use Rattle.leaf_bounds.specs.ListRules.{ListAdded}
 use Rattle.leaf_bounds.proofs.ListRows.{for_rank}
 use Rattle.leaf_bounds.proofs.list_table.add_list.Goals as goal

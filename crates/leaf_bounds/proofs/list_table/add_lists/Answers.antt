@@ -1,7 +1,7 @@
 use Rattle.std.proofs.Common.{false, true, map, inl, inr, subst, sym, arith, rules}
 use Rattle.std.proofs.lemmas.List.{length-map}
 use Rattle.leaf_bounds.specs.Lists.{KeptBehind}
-use Rattle.proof_model.specs.Proofs.{list_value}
+use Rattle.plan_model.specs.Proofs.{list_value}
 use Rattle.leaf_bounds.specs.ListRules.{ListAdded, chip_ruled, limits_ruled, roles_in}
 use Rattle.plan_model.proofs.FirstBreaches.{each_all, each_more, first_here}
 use Rattle.leaf_bounds.proofs.ListRows.{made_at, row_more}

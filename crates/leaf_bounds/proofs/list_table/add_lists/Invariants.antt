@@ -1,5 +1,5 @@
 use Rattle.std.proofs.Common.{◌≡◌, ◌++◌, map, take, flat_map}
-use Rattle.proof_model.specs.Proofs.{list_value}
+use Rattle.plan_model.specs.Proofs.{list_value}
 use Rattle.leaf_bounds.specs.Lists.{KeptBehind}
 use Rattle.leaf_bounds.specs.ListRules.{chip_ruled, limits_ruled, roles_in}
 use Rattle.plan_model.proofs.FirstBreaches.{EachTo}

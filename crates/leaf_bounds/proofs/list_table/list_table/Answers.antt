@@ -1,5 +1,5 @@
 use Rattle.std.proofs.Common.{◌≡◌, ◌∙◌, ◌++◌, length, map, take, ap, rules, flat_map}
-use Rattle.proof_model.specs.Proofs.{list_value}
+use Rattle.plan_model.specs.Proofs.{list_value}
 use Rattle.leaf_bounds.specs.ListRules.{roles_in}
 use Rattle.leaf_bounds.proofs.ListRows.{table_of_rules}
 use Rattle.leaf_bounds.proofs.list_table.list_table.Goals as goal

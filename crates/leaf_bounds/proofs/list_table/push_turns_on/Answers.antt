@@ -1,7 +1,7 @@
 use Rattle.std.proofs.Common.{sym, ◌≡◌, ◌<◌, ◌∙◌, ◌++◌, length, map, ap, arith, rules}
 use Rattle.std.proofs.lemmas.List.{length-map, take_all}
 use Rattle.soc_model.specs.Chips.{LiveTest, live_tests}
-use Rattle.proof_model.specs.Proofs.{OfTurnsOn}
+use Rattle.plan_model.specs.Proofs.{OfTurnsOn}
 use Rattle.leaf_bounds.specs.ListTables.{role_of}
 use Rattle.leaf_bounds.specs.ListRules.{chip_ruled, limits_ruled}
 use Rattle.leaf_bounds.proofs.ListRows.{turns_on_more, bit_read}

@@ -1,7 +1,7 @@
 use Rattle.std.proofs.Common.{◌≡◌, ◌++◌, ℕ, List, map, take}
 use Rattle.soc_model.specs.declared.TestId.{TestId}
 use Rattle.soc_model.specs.Chips.{live_tests}
-use Rattle.proof_model.specs.Proofs.{OfTurnsOn}
+use Rattle.plan_model.specs.Proofs.{OfTurnsOn}
 use Rattle.leaf_bounds.specs.ListTables.{role_of}
 use Rattle.leaf_bounds.specs.ListRules.{AreTurnMarks, chip_ruled, limits_ruled}
 use Rattle.leaf_bounds.proofs.list_table.push_turns_on.Given as goal

@@ -1,5 +1,5 @@
 use Rattle.std.proofs.Common.{refl, sym, ap, subst, ◌∙◌, arith, length}
-use Rattle.proof_model.specs.Proofs.{pricing_value, WeightsValue}
+use Rattle.plan_model.specs.Proofs.{pricing_value, WeightsValue}
 use Rattle.leaf_bounds.specs.Cases.{IsEmpty}
 use Rattle.leaf_bounds.specs.LeafAnswers.{no_weights}
 use Rattle.leaf_bounds.specs.PackLeaves.{list_weights}

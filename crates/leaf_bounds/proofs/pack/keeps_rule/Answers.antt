@@ -1,5 +1,5 @@
 use Rattle.std.proofs.Common.{◌+◌, refl, ap, subst, ◌∙◌, arith, length, All}
-use Rattle.proof_model.specs.Proofs.{pricing_value}
+use Rattle.plan_model.specs.Proofs.{pricing_value}
 use Rattle.leaf_bounds.specs.Bases.{chip_of, lists_of, claim_of}
 use Rattle.leaf_bounds.specs.LeafSlots.{IsNamed}
 use Rattle.leaf_bounds.specs.PackLeaves.{ArePricedOnce, pack_work}

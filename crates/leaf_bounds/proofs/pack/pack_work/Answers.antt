@@ -1,5 +1,5 @@
 use Rattle.std.proofs.Common.{refl, sym, ap, ◌∙◌, if◌then◌else◌}
-use Rattle.proof_model.specs.Proofs.{pricing_value}
+use Rattle.plan_model.specs.Proofs.{pricing_value}
 use Rattle.leaf_bounds.specs.PackLeaves.{work_in}
 use Rattle.leaf_bounds.proofs.PackAnswers.{some_is}
 use Rattle.leaf_bounds.proofs.pack.pack_work.Goals as goal

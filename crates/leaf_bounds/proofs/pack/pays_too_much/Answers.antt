@@ -1,5 +1,5 @@
 use Rattle.std.proofs.Common.{sym, arith}
-use Rattle.proof_model.specs.Proofs.{pricing_value}
+use Rattle.plan_model.specs.Proofs.{pricing_value}
 use Rattle.leaf_bounds.specs.Bases.{chip_of, limits_of, claim_of}
 use Rattle.leaf_bounds.specs.PackLeaves.{IsFilling, list_weights}
 use Rattle.leaf_bounds.proofs.PackAnswers.{one_greatest, pays_is}

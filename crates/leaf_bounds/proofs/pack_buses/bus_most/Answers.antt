@@ -1,6 +1,6 @@
 use Rattle.std.proofs.Common.{◌≡◌, ◌+◌, ◌-◌, length, refl, sym, ap, ◌∙◌, arith, slice_index}
 use Rattle.std.proofs.lemmas.List.{get_or_default, with_items_is}
-use Rattle.proof_model.specs.Proofs.{pricing_value}
+use Rattle.plan_model.specs.Proofs.{pricing_value}
 use Rattle.leaf_bounds.specs.Bases.{claim_of}
 use Rattle.leaf_bounds.specs.PackLeaves.{cells_of}
 use Rattle.leaf_bounds.specs.PackBuses.{most_of}

@@ -1,5 +1,5 @@
 use Rattle.std.proofs.Common.{◌≡◌, sym, ◌∙◌}
-use Rattle.packed_times.specs.Packed.{packed_tam_time}
+use Rattle.proof_facts.specs.Packed.{packed_tam_time}
 use Rattle.leaf_bounds.specs.Bases.{chip_of}
 use Rattle.leaf_bounds.proofs.LikeBuses.{time_like}
 use Rattle.leaf_bounds.proofs.pack_buses.is_like_item.Goals as goal

@@ -1,6 +1,6 @@
 use Rattle.std.proofs.Common.{◌<◌, length, refl, sym, subst, ◌∙◌, arith, inl, inr}
 use Rattle.std.proofs.lemmas.Bool.{cases_eq}
-use Rattle.proof_model.specs.Proofs.{pricing_value}
+use Rattle.plan_model.specs.Proofs.{pricing_value}
 use Rattle.leaf_bounds.specs.Bases.{chip_of}
 use Rattle.leaf_bounds.specs.PackLeaves.{price_at, priced_place}
 use Rattle.leaf_bounds.specs.PackBuses.{IsLikeItem}

@@ -1,6 +1,6 @@
 use Rattle.std.proofs.Common.{Some, length, refl, sym, ap, subst, ◌∙◌, arith}
 use Rattle.std.specs.Vec.{with_item}
-use Rattle.proof_model.specs.Proofs.{pricing_value}
+use Rattle.plan_model.specs.Proofs.{pricing_value}
 use Rattle.leaf_bounds.specs.PackBuses.{AreKept}
 use Rattle.leaf_bounds.proofs.LikeBuses.{one_kept}
 use Rattle.leaf_bounds.proofs.PackSteps.{bus_most-le}

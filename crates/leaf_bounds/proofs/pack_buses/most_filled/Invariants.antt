@@ -1,5 +1,5 @@
 use Rattle.std.proofs.Common.{◌≡◌, ◌+◌, ◌*◌, ◌≤◌, ◌^◌, ℕ, slice_index}
-use Rattle.proof_model.specs.Proofs.{pricing_value}
+use Rattle.plan_model.specs.Proofs.{pricing_value}
 use Rattle.leaf_bounds.specs.Bases.{limits_of}
 use Rattle.leaf_bounds.specs.Cases.{Case, spare}
 use Rattle.leaf_bounds.specs.CaseRooms.{IsCaseOf}

@@ -1,6 +1,6 @@
 use Rattle.std.proofs.Common.{◌≡◌, ◌+◌, ◌^◌, ◌<◌, ◌≤◌, ℕ, length, refl, ap, subst, ◌∙◌, arith, slice_index}
 use Rattle.std.proofs.lemmas.List.{length-set}
-use Rattle.proof_model.specs.Proofs.{pricing_value}
+use Rattle.plan_model.specs.Proofs.{pricing_value}
 use Rattle.leaf_bounds.specs.Bases.{chip_of}
 use Rattle.leaf_bounds.specs.PackLeaves.{ArePlaces}
 use Rattle.leaf_bounds.specs.PackBuses.{IsLikeRank, bus_most}

@@ -1,6 +1,6 @@
 use Rattle.std.proofs.Common.{◌≡◌, ◌+◌, ◌*◌, ◌^◌, length, sym, ap, subst, ◌∙◌, arith, slice_index}
 use Rattle.std.proofs.lemmas.List.{with_items_is}
-use Rattle.proof_model.specs.Proofs.{pricing_value}
+use Rattle.plan_model.specs.Proofs.{pricing_value}
 use Rattle.leaf_bounds.specs.Bases.{limits_of}
 use Rattle.leaf_bounds.specs.Cases.{Interval, interval, interval_of, spare}
 use Rattle.leaf_bounds.specs.PackBuses.{IsWiresRow, bus_most, span_at}

@@ -2,7 +2,7 @@ use Rattle.std.proofs.Common.{◌≡◌, ℕ, ◌<◌, ◌≤◌, true, None, ge
 use Rattle.std.proofs.lemmas.Bool.{cases_eq, le-leb, lt-ltb}
 use Rattle.std.proofs.lemmas.Option.{slice_get_within, slice_get-get_or}
 use Rattle.live_tests.specs.declared.placed.PlacedTest.{PlacedTest}
-use Rattle.power_events.specs.Loads.{is_active}
+use Rattle.live_tests.specs.Loads.{is_active}
 use Rattle.plan_checker.specs.Clashes.{keeps_apart, Clash}
 use Rattle.plan_checker.proofs.LeastPairs.{clash_gives}
 use Rattle.plan_checker.proofs.clashes.first_partner.Goals as goal

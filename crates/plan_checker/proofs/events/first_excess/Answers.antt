@@ -1,5 +1,5 @@
 use Rattle.std.proofs.Common.{◌+◌, ◌-◌, get_or, arith}
-use Rattle.power_events.specs.declared.Event.{Event}
+use Rattle.live_tests.specs.declared.power_events.Event.{Event}
 use Rattle.plan_checker.proofs.Summing.{none_summed, one_summed, high_here, all_summed}
 use Rattle.plan_checker.proofs.events.first_excess.Goals as goal
 use Rattle.plan_checker.proofs.events.first_excess.Goals.{else-whole-via-then-whole+else-begun-ended, else-whole-via-else-whole}

@@ -3,7 +3,7 @@ use Rattle.std.proofs.lemmas.List.{length-append}
 use Rattle.std.proofs.lemmas.Option.{slice_get-get_or}
 use Rattle.plan_model.specs.Views.{limits_value}
 use Rattle.live_tests.specs.declared.placed.PlacedTest.{PlacedTest}
-use Rattle.power_events.specs.Events.{test_events}
+use Rattle.live_tests.specs.Events.{test_events}
 use Rattle.plan_checker.proofs.FewEvents.{more_events, few_test_events}
 use Rattle.plan_checker.proofs.power.fill_events.Goals as goal
 

@@ -1,7 +1,7 @@
 use Rattle.std.proofs.Common.{◌≡◌, ◌*◌, ◌≤◌, length, take, vec_capacity}
 use Rattle.plan_model.specs.Views.{limits_value}
 use Rattle.plan_checker.specs.declared.events.TheConstants.{EVENTS_EACH}
-use Rattle.power_events.specs.Events.{all_events}
+use Rattle.live_tests.specs.Events.{all_events}
 use Rattle.plan_checker.proofs.power.fill_events.Given as goal
 
 abbrev pub invariant-loop-place : goal.invariant-loop-place

@@ -1,7 +1,7 @@
 use Rattle.std.proofs.Common.{List, ap, length, subst, arith}
 use Rattle.std.proofs.lemmas.List.Sorted.{All-permutation, length_permutation}
 use Rattle.plan_model.specs.Views.{limits_value}
-use Rattle.power_events.specs.declared.Event.{Event}
+use Rattle.live_tests.specs.declared.power_events.Event.{Event}
 use Rattle.std.specs.List.Sorted.{IsPermutation}
 use Rattle.plan_checker.specs.Events.{IsSmall}
 use Rattle.plan_checker.proofs.FewEvents.{small_events, few_events}

@@ -2,7 +2,7 @@ use Rattle.std.proofs.Common.{get_or, None}
 use Rattle.std.proofs.lemmas.Option.{slice_get_within, slice_get-get_or, get_or_from_slice_get}
 use Rattle.plan_model.specs.Views.{limits_value}
 use Rattle.live_tests.specs.declared.placed.PlacedTest.{PlacedTest}
-use Rattle.power_events.specs.Events.{profile_place}
+use Rattle.live_tests.specs.Events.{profile_place}
 use Rattle.plan_checker.proofs.power.profile_of.Goals as goal
 
 none : PlacedTest

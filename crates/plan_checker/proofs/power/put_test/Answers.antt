@@ -1,7 +1,7 @@
 use Rattle.std.proofs.Common.{◌≡◌, ◌++◌, ◌∙◌, ap, length, subst, sym, arith}
 use Rattle.plan_model.specs.Views.{limits_value, profile_value}
 use Rattle.live_tests.specs.declared.placed.PlacedTest.{PlacedTest}
-use Rattle.power_events.specs.Events.{step_events, test_events}
+use Rattle.live_tests.specs.Events.{step_events, test_events}
 use Rattle.plan_checker.proofs.Finding.{some_same}
 use Rattle.plan_checker.proofs.Profiles.{profile_read, steps_read, steps_own}
 use Rattle.plan_checker.proofs.Rooms.{length_values}

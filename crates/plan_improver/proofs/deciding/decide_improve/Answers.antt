@@ -5,7 +5,7 @@ use Rattle.commands.specs.Procedures.{done_with_any}
 use Rattle.commands.proofs.FileStages.{may_be_done, gives_text}
 use Rattle.commands.proofs.AllFiles.{not_all, after_all}
 use Rattle.commands.proofs.LoadStages.{after_three, stops_all, any_loaded}
-use Rattle.plan_improver.proofs.Answering.{Improved}
+use Rattle.plan_improver.proofs.Kept.{Improved}
 use Rattle.plan_improver.proofs.deciding.decide_improve.Goals as goal
 
 pub returns-in-Ok-clause-follows : goal.returns-in-Ok-clause-follows

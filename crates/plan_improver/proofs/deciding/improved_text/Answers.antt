@@ -4,7 +4,7 @@ use Rattle.plan_model.specs.Views.{plan_value}
 use Rattle.plan_text.specs.PlanLines.{plan_text}
 use Rattle.commands.specs.AcceptedPlans.{AcceptedValue}
 use Rattle.plan_improver.specs.Improved.{IsImproved}
-use Rattle.plan_improver.proofs.Answering.{Improved}
+use Rattle.plan_improver.proofs.Kept.{Improved}
 use Rattle.plan_improver.proofs.deciding.improved_text.Goals as goal
 
 pub improved-requires : goal.improved-requires

@@ -1,5 +1,5 @@
 use Rattle.std.proofs.Common.{sym, subst, rules}
-use Rattle.proof_model.specs.Proofs.{proof_value}
+use Rattle.plan_model.specs.Proofs.{proof_value}
 use Rattle.proof_text.specs.Answers.{SaysProof}
 use Rattle.proof_text.proofs.PrintedProofs.{printed_is_read, proof_written}
 use Rattle.proof_text.proofs.printing.print_proof.Goals as goal

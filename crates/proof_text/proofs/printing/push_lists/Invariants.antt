@@ -1,6 +1,6 @@
 use Rattle.std.proofs.Common.{◌≡◌, ◌++◌, map, drop}
 use Rattle.keyword_text.specs.Lines.{text_of}
-use Rattle.proof_model.specs.Proofs.{list_value}
+use Rattle.plan_model.specs.Proofs.{list_value}
 use Rattle.proof_text.specs.Tokens.{spelling}
 use Rattle.proof_text.specs.ProofLines.{list_line}
 use Rattle.proof_text.proofs.printing.push_lists.Given as goal

@@ -1,5 +1,5 @@
 use Rattle.std.proofs.Common.{rules}
-use Rattle.proof_model.specs.Proofs.{weights_value}
+use Rattle.plan_model.specs.Proofs.{weights_value}
 use Rattle.proof_text.proofs.PrintedProofs.{weights_written_if}
 use Rattle.proof_text.proofs.printing.push_weights.Goals as goal
 

@@ -1,4 +1,4 @@
-use Rattle.proof_model.specs.Proofs.{proof_value}
+use Rattle.plan_model.specs.Proofs.{proof_value}
 use Rattle.proof_text.proofs.ProofTexts.{reads_proofs, said_in_range, not_read}
 use Rattle.proof_text.proofs.reading.read_proof.Goals as goal
 

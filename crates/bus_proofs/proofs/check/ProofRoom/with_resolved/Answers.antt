@@ -3,9 +3,9 @@ use Rattle.std.proofs.lemmas.List.{length-map}
 use Rattle.soc_model.specs.Chips.{module_value, soc_value}
 use Rattle.soc_model.specs.declared.Module.{Module}
 use Rattle.plan_model.specs.Views.{limits_value}
-use Rattle.proof_model.specs.declared.Node.{Node}
+use Rattle.plan_model.specs.declared.proof.Node.{Node}
 use Rattle.bus_proofs.specs.Walks.{named_in}
-use Rattle.proof_model.specs.Proofs.{LeafValue, OfLeaf, node_value, proof_value}
+use Rattle.plan_model.specs.Proofs.{LeafValue, OfLeaf, node_value, proof_value}
 use Rattle.leaf_bounds.proofs.LeafAnswers.{few_modules}
 use Rattle.bus_proofs.proofs.ProofChecks.{new_room}
 use Rattle.bus_proofs.proofs.check.ProofRoom.with_resolved.Goals as goal

@@ -1,6 +1,6 @@
 use Rattle.std.proofs.Common.{◌≡◌, ◌<◌, ◌≤◌, length, refl, sym, subst, arith}
 use Rattle.std.specs.{Prelude.IfSome, List.flat_map}
-use Rattle.drawn_power.specs.{Profiles.ArePoints, Draws.load_of}
+use Rattle.busy_times.specs.{Profiles.ArePoints, Draws.load_of}
 use Rattle.resource_table.specs.Jobs.{job_value, test_value}
 use Rattle.resource_table.specs.Resources.{marks_of}
 use Rattle.resource_table.specs.Schedules.{TableValue, last_end, StaysWithin}

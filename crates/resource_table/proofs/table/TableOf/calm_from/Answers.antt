@@ -1,7 +1,7 @@
 use Rattle.std.proofs.Common.{◌≡◌, sym, subst, arith}
 use Rattle.std.specs.{Prelude.IfSome, List.flat_map}
 use Rattle.resource_table.specs.{Calm.IsCalm, Jobs.job_value, Resources.marks_of}
-use Rattle.drawn_power.specs.{Profiles.ArePoints, Draws.load_of}
+use Rattle.busy_times.specs.{Profiles.ArePoints, Draws.load_of}
 use Rattle.resource_table.specs.Schedules.{TableValue, last_end}
 use Rattle.resource_table.proofs.KeptStarts.{profile_now, calm_here}
 use Rattle.resource_table.proofs.table.TableOf.calm_from.Goals as goal

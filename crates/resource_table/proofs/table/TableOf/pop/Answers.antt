@@ -3,7 +3,7 @@ use Rattle.std.{specs.Prelude.IfSome, specs.List.flat_map, specs.Vec.with_item, 
 use Rattle.resource_table.specs.declared.Placement.{Placement}
 use Rattle.busy_times.specs.declared.timelines.Span.{Span}
 use Rattle.resource_table.specs.Resources.{draws_of, marks_of}
-use Rattle.drawn_power.specs.Profiles.{ArePoints}
+use Rattle.busy_times.specs.Profiles.{ArePoints}
 use Rattle.resource_table.specs.Histories.{at_change}
 use Rattle.smallvec.specs.SmallVec.{SmallVec}
 use Rattle.resource_table.specs.Jobs.{TestValue, job_value, test_value, test_at, cycles_of}

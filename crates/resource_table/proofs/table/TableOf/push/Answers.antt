@@ -1,12 +1,12 @@
 use Rattle.std.proofs.Common.{◌≡◌, ◌+◌, ◌^◌, ◌≤◌, ◌∙◌, ◌++◌, ◌∷◌, [], ℕ, length, set, max, refl, sym, subst, ap, arith, Some, lit<, length-append}
 use Rattle.std.{specs.Prelude.IfSome, specs.Vec.with_item, specs.List.flat_map, specs.List.All, proofs.lemmas.List.length-map}
 use Rattle.busy_times.specs.declared.timelines.Span.{Span}
-use Rattle.drawn_power.specs.Profiles.{ArePoints}
+use Rattle.busy_times.specs.Profiles.{ArePoints}
 use Rattle.resource_table.specs.PlacedTimes.{busy_places, AreTimes}
 use Rattle.busy_times.specs.BusyTimes.{MayAdd, IsAdded}
 use Rattle.resource_table.specs.Jobs.{TestValue, job_value, test_value, test_at, cycles_of, no_test}
 use Rattle.resource_table.specs.Schedules.{TableValue, at_start, last_end, MayPlace}
-use Rattle.drawn_power.specs.Draws.{draws_from}
+use Rattle.busy_times.specs.Draws.{draws_from}
 use Rattle.resource_table.specs.Resources.{draws_of, marks_of}
 use Rattle.resource_table.proofs.PlacedTimes.{may_add, times_more}
 use Rattle.resource_table.proofs.KeptStarts.{wanted_is}

@@ -1,4 +1,0 @@
-pub mod Headlines
-pub mod Readings
-pub mod Requests
-pub mod Texts

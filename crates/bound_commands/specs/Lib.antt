@@ -1,0 +1,10 @@
+pub mod BoundFiles
+pub mod Laws
+pub mod Pictures
+pub mod Procedures
+pub mod ProofBounds
+pub mod ProofReadings
+pub mod ProofTexts
+pub mod TreeBounds
+pub mod TreeReadings
+pub mod TreeTexts

@@ -1,2 +1,0 @@
-pub mod KindTable
-pub mod Alike

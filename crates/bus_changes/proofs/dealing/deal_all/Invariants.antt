@@ -1,9 +1,0 @@
-use Rattle.arch_schedule.specs.Buses.{AreBuses, AreAlike, AreTimesOn}
-use Rattle.bus_changes.proofs.dealing.deal_all.Given as goal
-
-abbrev pub invariant-loop-place : goal.invariant-loop-place
-invariant-loop-place l = record {
-  buses : AreBuses l.buses;
-  alike : AreAlike l.initial.buses l.buses;
-  times : AreTimesOn l.buses l.times;
-}

@@ -1,4 +1,0 @@
-pub mod Marking
-pub mod Operations
-pub mod Placed
-pub mod Told

@@ -1,5 +1,0 @@
-use Rattle.control_rows.proofs.Told.{AreToldTo}
-use Rattle.control_rows.proofs.rows.ControlRows.put_rows.Given as goal
-
-abbrev pub invariant-loop-place : goal.invariant-loop-place
-invariant-loop-place l = AreToldTo l.self l.from l.count l.place l.text

@@ -1,7 +1,0 @@
-mod Near
-pub mod Profiles
-pub mod Ordered
-mod Marked
-mod Gaps
-mod Sweeps
-mod FittingSteps

@@ -1,6 +1,0 @@
-use Rattle.std.proofs.{Common.rules, lemmas.List.Elements.filter_from_retain}
-use Rattle.drawn_power.specs.Profiles.{is_used}
-use Rattle.drawn_power.proofs.points.drop_unused.Goals as goal
-
-pub returns-clause-items : goal.returns-clause-items
-returns-clause-items c = filter_from_retain _ is_used (λ p x b q k. search rules) _ _ _ c.retain.ensures.filtered

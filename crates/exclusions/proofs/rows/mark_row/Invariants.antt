@@ -1,5 +1,0 @@
-use Rattle.exclusions.proofs.Rowing.{AreMarkedTo}
-use Rattle.exclusions.proofs.rows.mark_row.Given as goal
-
-abbrev pub invariant-loop-place : goal.invariant-loop-place
-invariant-loop-place l = AreMarkedTo l.facts l.power l.test l.ahead l.initial.marks l.marks l.place

@@ -1,3 +1,0 @@
-pub mod Exclusions
-pub mod Marks
-pub mod Rows

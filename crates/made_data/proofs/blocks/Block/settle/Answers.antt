@@ -1,6 +1,0 @@
-use Rattle.made_data.specs.Sending.{waiting}
-use Rattle.made_data.proofs.SentTexts.{nothing_sent}
-use Rattle.made_data.proofs.blocks.Block.settle.Goals as goal
-
-pub returns-clause-sent : goal.returns-clause-sent
-returns-clause-sent g c = nothing_sent g.K.Sink.is_put g.K.Sink.written c.args.out.now (waiting c.args.self.now)

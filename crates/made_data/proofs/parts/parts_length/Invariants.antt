@@ -1,9 +1,0 @@
-use Rattle.std.proofs.Common.{◌≡◌, ◌*◌, ◌^◌, ◌≤◌, map, take, sum_by}
-use Rattle.made_data.specs.Parts.{part_length, part_value}
-use Rattle.made_data.proofs.parts.parts_length.Given as goal
-
-abbrev pub invariant-loop-part : goal.invariant-loop-part
-invariant-loop-part l = record {
-  is : l.sum ≡ sum_by part_length (map part_value (take l.part-index l.parts));
-  small : l.sum ≤ l.part-index * 10 ^ 30;
-}

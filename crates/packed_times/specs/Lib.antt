@@ -1,4 +1,0 @@
-pub mod Packed
-pub mod Fronts
-pub mod Times
-pub mod Tables

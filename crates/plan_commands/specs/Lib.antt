@@ -1,0 +1,12 @@
+pub mod Laws
+pub mod LocateText
+pub mod LogReadings
+pub mod Procedures
+pub mod Promises
+pub mod Reports
+pub mod Samples
+pub mod ShiftPrograms
+pub mod SplitEnds
+pub mod SplitText
+pub mod Texts
+pub mod WidthsText

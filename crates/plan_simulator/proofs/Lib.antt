@@ -1,4 +1,0 @@
-pub mod CaptureCounts
-pub mod RightLoads
-pub mod Stepping
-pub mod Answering

@@ -1,4 +1,0 @@
-pub mod Runs
-pub mod Steps
-pub mod Requests
-pub mod Headlines

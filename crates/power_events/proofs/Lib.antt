@@ -1,3 +1,0 @@
-pub mod Balance
-pub mod Sweeping
-pub mod Reading

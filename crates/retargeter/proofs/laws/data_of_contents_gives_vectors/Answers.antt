@@ -1,5 +1,0 @@
-use Rattle.retargeter.proofs.ContentTexts.{content_again}
-use Rattle.retargeter.proofs.laws.data_of_contents_gives_vectors.Goals as goal
-
-pub returns : goal.returns
-returns c = content_again

@@ -1,5 +1,0 @@
-use Rattle.retargeter.proofs.RetargetTexts.{vectors_again}
-use Rattle.retargeter.proofs.laws.full_data_gives_vectors.Goals as goal
-
-pub returns : goal.returns
-returns c = vectors_again

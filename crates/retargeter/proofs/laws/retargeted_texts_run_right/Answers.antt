@@ -1,5 +1,0 @@
-use Rattle.retargeter.proofs.RetargetTexts.{runs_with_data}
-use Rattle.retargeter.proofs.laws.retargeted_texts_run_right.Goals as goal
-
-pub returns : goal.returns
-returns c = runs_with_data

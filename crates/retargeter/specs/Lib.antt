@@ -1,8 +1,0 @@
-pub mod Contents
-pub mod DataTexts
-pub mod DataRuns
-pub mod Texts
-pub mod Readings
-pub mod Requests
-pub mod Endings
-pub mod Headlines

@@ -1,5 +1,0 @@
-use Rattle.std.proofs.Common.{length}
-use Rattle.row_calls.proofs.frames.+place_nested.Given as goal
-
-abbrev pub decreases-place_nested : goal.decreases-place_nested
-decreases-place_nested g l = length l.tests.now

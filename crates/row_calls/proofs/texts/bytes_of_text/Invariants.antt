@@ -1,5 +1,0 @@
-use Rattle.std.proofs.Common.{length}
-use Rattle.row_calls.proofs.texts.bytes_of_text.Given as goal
-
-abbrev pub decreases-loop-piece : goal.decreases-loop-piece
-decreases-loop-piece l = length l.left

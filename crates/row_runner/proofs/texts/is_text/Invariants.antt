@@ -1,0 +1,5 @@
+use Rattle.std.proofs.Common.{length}
+use Rattle.row_runner.proofs.texts.is_text.Given as goal
+
+abbrev pub decreases-loop-piece : goal.decreases-loop-piece
+decreases-loop-piece l = length l.left

@@ -1,4 +1,0 @@
-use Rattle.soctest.proofs.deciding.planned_for.Goals as goal
-
-pub returns : goal.returns
-returns c = rw (c.new-problem.ensures.chip, c.new-problem.ensures.limits) at c.in_ok-plan.ensures

@@ -1,6 +1,0 @@
-use Rattle.std.proofs.Common.{◌≡◌, ◌++◌, drop, flat_map}
-use Rattle.stil_text.specs.StilText.{added}
-use Rattle.stil_text.proofs.head.push_added.Given as goal
-
-abbrev pub invariant-loop-control : goal.invariant-loop-control
-invariant-loop-control l = l.text.items ++ flat_map added (drop l.control-index l.controls) ≡ l.initial.text.items ++ flat_map added l.controls

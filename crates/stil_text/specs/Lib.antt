@@ -1,2 +1,0 @@
-pub mod StilText
-pub mod StilForms

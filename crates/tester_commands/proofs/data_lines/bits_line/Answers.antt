@@ -1,0 +1,12 @@
+use Rattle.std.proofs.Common.{arith, IsTrue}
+use Rattle.std.proofs.lemmas.Grind.{common_steps}
+use Rattle.commands.specs.Texts.{no_feed}
+use Rattle.commands.proofs.LineFacts.{line_from}
+use Rattle.tester_commands.proofs.data_lines.bits_line.Goals as goal
+
+pub returns-clause-line : goal.returns-clause-line
+returns-clause-line c =
+    let front : IsTrue (no_feed c.push_text.new.to.items) = grind (arith, common_steps, c.in_ok-push_text.ensures.plain) in
+    let named : IsTrue (no_feed c.push_text-2.new.to.items) = grind (arith, common_steps, c.in_ok-push_text-2.ensures.plain, c.in_ok-push_test.ensures.plain front) in
+    let sided : IsTrue (no_feed c.push_text-3.new.to.items) = grind (arith, common_steps, c.requires, c.in_ok-push_text-3.ensures.plain, c.in_ok-push_decimal.ensures.plain named) in
+    line_from _ _ c.in_ok-push_text-4.ensures.text (c.in_ok-push_decimal-2.ensures.plain sided)

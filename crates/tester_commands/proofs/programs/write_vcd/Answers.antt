@@ -1,0 +1,20 @@
+use Rattle.std.proofs.Common.{List, None, ap, length, subst, ℕ, ◌∙◌}
+use Rattle.live_tests.specs.PlacedPlans.{PlacedPlanValue}
+use Rattle.vector_lines.specs.Wires.{wires_of}
+use Rattle.controls.specs.Controls.{controls}
+use Rattle.tester_forms.specs.Dumps.{dump_head, dump_part, dump_tail, part_text}
+use Rattle.tester_forms.specs.Forms.{form_sources}
+use Rattle.commands.specs.Ends.{WritesUnless}
+use Rattle.tester_commands.proofs.ProgramTexts.{vcd_written}
+use Rattle.tester_commands.proofs.programs.write_vcd.Goals as goal
+
+pub write_in_form-requires-clause-wires : goal.write_in_form-requires-clause-wires
+write_in_form-requires-clause-wires g c = c.in-Ok.ensures.wires ∙ ap (λ (p : PlacedPlanValue). wires_of p.plan) c.placed.view_is
+
+pub write_in_form-requires-clause-controls : goal.write_in_form-requires-clause-controls
+write_in_form-requires-clause-controls g c = c.in-Ok.ensures.controls ∙ ap (λ (p : PlacedPlanValue). length (controls p.soc)) c.placed.view_is
+
+pub returns-in-Ok-clause-written : goal.returns-in-Ok-clause-written
+returns-in-Ok-clause-written g c =
+    subst (λ (t : List ℕ). WritesUnless None t (g.K.Sink.faults c.args.out.now) (g.K.Sink.faults c.write_in_form.new.out) (g.K.Sink.written c.args.out.now) c.write_in_form.result (g.K.Sink.written c.write_in_form.new.out))
+    (vcd_written c.in-Ok.form.head.items (part_text (form_sources c.in-Ok.form.wires c.in-Ok.form.places.items)) c.in-Ok.form.tail.items c.args.placed.now.soc c.args.placed.now.plan c.args.test_data.now (c.in-Ok.ensures.head ∙ ap (λ (p : PlacedPlanValue). dump_head p.soc p.plan) c.placed.view_is) (c.in-Ok.ensures.part ∙ ap (λ (p : PlacedPlanValue). dump_part p.soc p.plan) c.placed.view_is) (c.in-Ok.ensures.tail ∙ ap (λ (p : PlacedPlanValue). dump_tail p.plan) c.placed.view_is)) c.write_in_form.ensures.written

@@ -1,0 +1,11 @@
+pub mod Puts
+pub mod Texts
+pub mod HowMany
+pub mod Parts
+pub mod Listed
+pub mod Digits
+pub mod Whole
+pub mod VcdPuts
+pub mod Written
+pub mod Naming
+pub mod Marks

@@ -1,0 +1,11 @@
+use Rattle.std.proofs.Common.{◌+◌, ◌*◌, ◌≤◌, true}
+use Rattle.cycle_texts.specs.Rows.{IsPutAt, row_of}
+use Rattle.tester_forms.specs.Forms.{wire_sources}
+use Rattle.tester_forms.proofs.Parts.{lines_of}
+use Rattle.tester_forms.proofs.vcd_changes.put_wire_values.Given as goal
+
+abbrev pub invariant-loop-wire : goal.invariant-loop-wire
+invariant-loop-wire l = record {
+  put : IsPutAt l.at (lines_of (λ s. true) (row_of l.row) 0 (wire_sources l.wire)) l.end l.initial.text l.text;
+  within : l.end ≤ l.at + 16 * l.wire;
+}

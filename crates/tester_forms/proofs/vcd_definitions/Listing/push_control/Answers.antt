@@ -1,0 +1,10 @@
+use Rattle.std.proofs.Common.{◌++◌, decimal, refl}
+use Rattle.tester_forms.proofs.Listed.{listed_one}
+use Rattle.tester_forms.proofs.vcd_definitions.Listing.push_control.Goals as goal
+use Rattle.common_lemmas.proofs.Options.{on_ok}
+
+pub returns : goal.returns
+returns c =
+    on_ok c.push.result
+    (λ e. listed_one c.args.self.now (record { text = c.push_variable.new.text; first = c.args.self.now.first; places = c.push.new.to }) c.number-number.result c.args.place (c.args.word.now ++ decimal c.args.module) c.number-number.ensures c.in_ok-push_variable.ensures e refl)
+    c.push.ensures.ok

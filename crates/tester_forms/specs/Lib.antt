@@ -1,0 +1,11 @@
+pub mod Pieces
+pub mod StilText
+pub mod StilForms
+pub mod Variables
+pub mod Dumps
+pub mod Forms
+pub mod Listings
+pub mod Shown
+pub mod Naming
+pub mod VerilogText
+pub mod VerilogForms

@@ -1,4 +1,0 @@
-mod ShortRuns
-mod Programs
-pub mod ProgramEndings
-pub mod Answering

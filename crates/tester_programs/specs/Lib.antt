@@ -1,4 +1,0 @@
-pub mod Languages
-pub mod Requests
-pub mod ProgramEndings
-pub mod Headlines

@@ -1,7 +1,0 @@
-use Rattle.form_pieces.proofs.Puts.{put_then}
-use Rattle.verilog_text.specs.VerilogText.{verilog_line}
-use Rattle.verilog_text.proofs.form.VerilogFormCycleForm.put.Goals as goal
-
-pub returns-clause-put : goal.returns-clause-put
-unfolding verilog_line
-returns-clause-put c = put_then c.put_piece-from.ensures (put_then c.put_numbers-end.ensures c.put_piece.ensures)

@@ -1,2 +1,0 @@
-pub mod VerilogText
-pub mod VerilogForms
